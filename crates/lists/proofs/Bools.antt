@@ -49,3 +49,8 @@ cond-zero false e h = (refl, e)
 
 pub eq-test : {a b : ℕ} → a ≡ b → T (eqb a b)
 eq-test {a} {b} e = rw e (eqb-refl b)
+
+-- a test whose failure would show what cannot be has passed
+pub rejected : (t : Bool) {P : Type 0} → (t ≡ false → P) → (P → ⊥) → t ≡ true
+rejected true f n = refl
+rejected false f n = absurd (n (f refl))

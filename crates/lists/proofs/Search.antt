@@ -2,7 +2,7 @@
 -- Assumes nothing.
 use Prim.Native.Nat.{ℕ, zero, suc, _+_, _-_, _≤_, _<_}
 use native.Mathlib.Numerals.{add-one}
-use native.Mathlib.Nat.{eq-or-lt-of-le}
+use native.Mathlib.Nat.{eq-or-lt-of-le, sub-zero}
 use native.Mathlib.Omega.{arith}
 use mathlib.Core.Path.{_≡_, refl, sym, ap, _∙_}
 use mathlib.Core.Logic.{⊎-elim}
@@ -29,6 +29,9 @@ module _ {A : Type 0} (p : ℕ → Bool) (found none : ℕ → A) (n : ℕ) wher
   search-end i h =
       let e : n - i ≡ 0 = omega arith in
       rw e
+
+pub first-start : (p : ℕ → Bool) (n : ℕ) → search p itself itself 0 (n - 0) ≡ first p n
+first-start p n = rw sub-zero
 
 -- ---- the first hit: p fails below it, holds at it, and it is at most the end
 
@@ -123,3 +126,17 @@ module _ (p : ℕ → Bool) where
       go : (b : Bool) → some p a e ≡ b → b ≡ true
       go true q = refl
       go false q = sym (some-none a e q j l h) ∙ t
+
+  pub none-some : (a e : ℕ) → ((j : ℕ) → a ≤ j → j < e → p j ≡ false) → some p a e ≡ false
+  none-some a e out = go (some p a e) refl
+    where
+      go : (b : Bool) → some p a e ≡ b → b ≡ false
+      go true q = let h = some-hit a e q in sym (h .holds) ∙ out (h .at) (h .from-a) (h .below-e)
+      go false q = refl
+
+  -- there is a hit below n exactly if the first hit is below n
+  pub first-some : (n : ℕ) → first p n < n → some p 0 n ≡ true
+  first-some n h = hit-some 0 n (first p n) (omega arith) h (first-at p n h)
+
+  pub first-none : (n : ℕ) → n ≤ first p n → some p 0 n ≡ false
+  first-none n h = none-some 0 n (λ j l k. first-before p n j (omega arith))

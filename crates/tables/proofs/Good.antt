@@ -1,0 +1,115 @@
+-- The table of a fine reading is good: all that the layers above know of it. Assumes nothing.
+use Prim.Native.Nat.{ℕ, _+_, _-_, _*_, _≤_, _<_}
+use native.Mathlib.Omega.{arith}
+use mathlib.Core.Path.{_≡_, refl, sym, ap, _∙_, subst}
+use mathlib.Core.Bool.{Bool, true, false}
+use mathlib.Core.List.{List, _++_}
+use lib.ListN.{length, getD, replicate, length-append, length-replicate, List·getD-append}
+use lib.Seq.{getD-append-add}
+use lib.Dec.{T}
+use borrow.Author.Tests.{not-false}
+use Rattle.lists.specs.Lists.{tab}
+use Rattle.lists.specs.Search.{some}
+use Rattle.lists.proofs.Bools.{eq-test}
+use Rattle.lists.proofs.Search.{some-none}
+use Rattle.lists.proofs.Tab.{length-tab, tab-at, getD-same}
+use Rattle.tables.specs.Verdicts.{sideNumber, verdictOf}
+use Rattle.tables.specs.Format.{rowsIn, rowAt, zeroRow, rowsOf, tableOf}
+use Rattle.tables.specs.Reads.{badRow, fallRow, headerChecks, rowChecks, checks, readAs, readOf}
+use Rattle.tables.specs.Good.{row, GoodRow, Good}
+use Rattle.tables.specs.declared.Side.{Side}
+use Rattle.tables.specs.declared.Side.the-variants.{Writer, Reader}
+use Rattle.tables.specs.declared.Reading.{Reading}
+use Rattle.tables.specs.declared.Verdict.{Verdict}
+use Rattle.tables.specs.declared.Verdict.the-variants.{Fine, Refused}
+use Rattle.tables.proofs.Verdicts.{refused-not-fine, Silent, fine-silent, fine-front, fine-goes-on}
+use Rattle.tables.proofs.Rows.{Fits, fits-of, no-fall}
+use Rattle.tables.proofs.Readings.{HeaderFine, header-of}
+
+-- ---- the rows of the table in hand are those of the bytes, and zero past them
+
+module _ (bs : List ℕ) where
+  used-rows : length (tab (rowAt bs) (rowsIn bs)) ≡ rowsIn bs
+  used-rows = length-tab (rowAt bs) (rowsIn bs)
+
+  row-used : (i : ℕ) → i < rowsIn bs → row (tableOf bs) i ≡ rowAt bs i
+  unfolding rowsOf
+  row-used i l =
+      List·getD-append (tab (rowAt bs) (rowsIn bs)) (replicate (64 - rowsIn bs) zeroRow) zeroRow i (omega (arith, used-rows))
+      ∙ tab-at (rowAt bs) (rowsIn bs) i zeroRow l
+
+  row-unused : (i : ℕ) → rowsIn bs ≤ i → row (tableOf bs) i ≡ zeroRow
+  unfolding rowsOf
+  row-unused i l =
+      let e : i ≡ length (tab (rowAt bs) (rowsIn bs)) + (i - rowsIn bs) = omega (arith, used-rows) in
+      rw e
+      (getD-append-add (tab (rowAt bs) (rowsIn bs)) (replicate (64 - rowsIn bs) zeroRow) (i - rowsIn bs) zeroRow
+      ∙ getD-same (64 - rowsIn bs) (i - rowsIn bs) zeroRow)
+
+  rows-long : rowsIn bs ≤ 64 → length (rowsOf bs) ≡ 64
+  unfolding rowsOf
+  rows-long h = simp (length-append, length-tab, length-replicate) (omega arith)
+
+-- ---- a reading that is fine
+
+verdict-by : (v : Verdict) (bs : List ℕ) → readAs v bs .verdict ≡ Fine → v ≡ Fine
+verdict-by Fine bs e = refl
+verdict-by (Refused n s r) bs e = absurd (refused-not-fine e)
+
+pub fine-checks : (bs : List ℕ) (side : Side) → readOf bs side .verdict ≡ Fine → verdictOf (checks bs (sideNumber side)) ≡ Fine
+unfolding readOf
+fine-checks bs side e = verdict-by (verdictOf (checks bs (sideNumber side))) bs e
+
+pub fine-table : (bs : List ℕ) (side : Side) → readOf bs side .verdict ≡ Fine → readOf bs side .table ≡ tableOf bs
+unfolding readOf
+fine-table bs side e = ap (λ (v : Verdict). readAs v bs .table) (fine-checks bs side e)
+
+side-range : (side : Side) → (1 ≤ sideNumber side) × (sideNumber side ≤ 2)
+side-range Writer = (omega arith, omega arith)
+side-range Reader = (omega arith, omega arith)
+
+module _ (bs : List ℕ) (side : Side) (fine : verdictOf (checks bs (sideNumber side)) ≡ Fine) where
+  header : HeaderFine bs (sideNumber side)
+  header = header-of bs (sideNumber side) fine
+
+  rows-silent : (some (badRow bs) 0 (rowsIn bs) ≡ false) × (some (fallRow bs) 0 (rowsIn bs) ≡ false)
+  unfolding rowChecks
+  rows-silent =
+      let s = sideNumber side in
+      let e : verdictOf (rowChecks bs s) ≡ Fine = fine-goes-on (headerChecks bs s) (rowChecks bs s) (fine-front (headerChecks bs s) (rowChecks bs s) fine) ∙ fine in
+      let h : Silent (rowChecks bs s) = fine-silent (rowChecks bs s) e in
+      (h .0, h .1 .0)
+
+  good-row : (i : ℕ) → i < rowsIn bs → GoodRow (tableOf bs) (rowAt bs i)
+  unfolding badRow
+  good-row i l =
+      let f = fits-of _ _ _ (rowAt bs i) (not-false _ (some-none (badRow bs) 0 (rowsIn bs) (rows-silent .0) i (omega arith) l)) in
+      record { state = f .state; drive = f .drive; answer = f .answer; item = f .item; next = f .next }
+
+  good-bytes : Good (tableOf bs)
+  good-bytes = record {
+    version = eq-test (header .version);
+    role = (rw (header .role) (side-range side .0), rw (header .role) (side-range side .1));
+    states = (header .ranges .0, header .ranges .1);
+    start = header .ends .0;
+    finish = header .ends .1;
+    letters = (header .ranges .2, header .ranges .3);
+    count = header .ranges .4;
+    long = rows-long bs (header .ranges .4);
+    used = λ i l. rw (row-used bs i l) (good-row i l);
+    rise = λ i l.
+        rw (row-used bs i (omega arith), row-used bs (i + 1) l)
+        (no-fall bs i (some-none (fallRow bs) 0 (rowsIn bs) (rows-silent .1) (i + 1) (omega arith) l));
+    unused = λ i l. row-unused bs i l;
+  }
+
+-- a table that was read is good, and is of its side
+pub read-good : (bs : List ℕ) (side : Side) (r : Reading) → r ≡ readOf bs side → r .verdict ≡ Fine → Good (r .table)
+read-good bs side r e v =
+    let w : readOf bs side .verdict ≡ Fine = rw e at v in
+    rw (e, fine-table bs side w) (good-bytes bs side (fine-checks bs side w))
+
+pub read-role : (bs : List ℕ) (side : Side) (r : Reading) → r ≡ readOf bs side → r .verdict ≡ Fine → r .table .role ≡ sideNumber side
+read-role bs side r e v =
+    let w : readOf bs side .verdict ≡ Fine = rw e at v in
+    rw (e, fine-table bs side w) (header bs side (fine-checks bs side w) .role)

@@ -1,0 +1,4 @@
+pub mod Verdicts
+pub mod Format
+pub mod Reads
+pub mod Good

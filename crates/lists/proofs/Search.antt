@@ -1,4 +1,4 @@
--- A loop that searches from low to high keeps `search .. i (n - i)`, what is left to look at; and what the search's answer says.
+-- A loop that searches from low to high keeps `seek .. i (n - i)`, what is left to look at; and what the search's answer says.
 -- Assumes nothing.
 use Prim.Native.Nat.{ℕ, zero, suc, _+_, _-_, _≤_, _<_}
 use native.Mathlib.Numerals.{add-one}
@@ -7,30 +7,30 @@ use native.Mathlib.Omega.{arith}
 use mathlib.Core.Path.{_≡_, refl, sym, ap, _∙_}
 use mathlib.Core.Logic.{⊎-elim}
 use mathlib.Core.Bool.{Bool, true, false, cond, true≢false}
-use Rattle.lists.specs.Search.{search, itself, yes, no, first, some}
+use Rattle.lists.specs.Search.{seek, itself, yes, no, first, some}
 
 -- ---- the loop: at i, with n the end
 
 module _ {A : Type 0} (p : ℕ → Bool) (found none : ℕ → A) (n : ℕ) where
-  head : (i : ℕ) → i < n → search p found none i (n - i) ≡ cond (p i) (found i) (search p found none (i + 1) (n - (i + 1)))
-  unfolding search
+  head : (i : ℕ) → i < n → seek p found none i (n - i) ≡ cond (p i) (found i) (seek p found none (i + 1) (n - (i + 1)))
+  unfolding seek
   head i h =
       let e : n - i ≡ suc (n - (i + 1)) = omega arith in
       rw (e, add-one i)
 
-  pub search-hit : (i : ℕ) {r : Bool} → i < n → r ≡ p i → r ≡ true → found i ≡ search p found none i (n - i)
-  search-hit i h q e = sym (head i h ∙ rw (sym q ∙ e))
+  pub seek-hit : (i : ℕ) {r : Bool} → i < n → r ≡ p i → r ≡ true → found i ≡ seek p found none i (n - i)
+  seek-hit i h q e = sym (head i h ∙ rw (sym q ∙ e))
 
-  pub search-miss : (i : ℕ) {r : Bool} → i < n → r ≡ p i → r ≡ false → search p found none (i + 1) (n - (i + 1)) ≡ search p found none i (n - i)
-  search-miss i h q e = sym (head i h ∙ rw (sym q ∙ e))
+  pub seek-miss : (i : ℕ) {r : Bool} → i < n → r ≡ p i → r ≡ false → seek p found none (i + 1) (n - (i + 1)) ≡ seek p found none i (n - i)
+  seek-miss i h q e = sym (head i h ∙ rw (sym q ∙ e))
 
-  pub search-end : (i : ℕ) → n ≤ i → none i ≡ search p found none i (n - i)
-  unfolding search
-  search-end i h =
+  pub seek-end : (i : ℕ) → n ≤ i → none i ≡ seek p found none i (n - i)
+  unfolding seek
+  seek-end i h =
       let e : n - i ≡ 0 = omega arith in
       rw e
 
-pub first-start : (p : ℕ → Bool) (n : ℕ) → search p itself itself 0 (n - 0) ≡ first p n
+pub first-start : (p : ℕ → Bool) (n : ℕ) → seek p itself itself 0 (n - 0) ≡ first p n
 first-start p n = rw sub-zero
 
 -- ---- the first hit: p fails below it, holds at it, and it is at most the end
@@ -38,14 +38,14 @@ first-start p n = rw sub-zero
 module _ (p : ℕ → Bool) where
   -- the first hit among the k numbers from i on
   from : ℕ → ℕ → ℕ
-  from i k = search p itself itself i k
+  from i k = seek p itself itself i k
 
   before-by : (k i j : ℕ) → (suc i ≤ j → j < from (suc i) k → p j ≡ false) → i ≤ j → (b : Bool) → p i ≡ b → j < cond b i (from (suc i) k) → p j ≡ false
   before-by k i j ih h true e l = absurd (omega arith)
   before-by k i j ih h false e l = ⊎-elim (λ (q : i ≡ j). ap p (sym q) ∙ e) (λ (q : i < j). ih q l) (eq-or-lt-of-le h)
 
   before-from : (k i j : ℕ) → i ≤ j → j < from i k → p j ≡ false
-  unfolding search from
+  unfolding seek from
   before-from zero i j h l = absurd (omega arith)
   before-from (suc k) i j h l = before-by k i j (before-from k (suc i) j) h (p i) refl l
 
@@ -58,7 +58,7 @@ module _ (p : ℕ → Bool) where
   at-by k i ih false e l = ih (omega arith)
 
   at-from : (k i : ℕ) → from i k < i + k → p (from i k) ≡ true
-  unfolding search from
+  unfolding seek from
   at-from zero i l = absurd (omega arith)
   at-from (suc k) i l = at-by k i (at-from k (suc i)) (p i) refl l
 
@@ -71,7 +71,7 @@ module _ (p : ℕ → Bool) where
   le-by k i false ih = omega arith
 
   le-from : (k i : ℕ) → from i k ≤ i + k
-  unfolding search from
+  unfolding seek from
   le-from zero i = omega arith
   le-from (suc k) i = le-by k i (p i) (le-from k (suc i))
 
@@ -89,12 +89,12 @@ module _ (p : ℕ → Bool) where
     pub below-e : at < e
     pub holds : p at ≡ true
 
-  hit-by : (k i : ℕ) → (search p yes no (suc i) k ≡ true → Hit (suc i) (suc i + k)) → (b : Bool) → p i ≡ b → cond b true (search p yes no (suc i) k) ≡ true → Hit i (i + suc k)
+  hit-by : (k i : ℕ) → (seek p yes no (suc i) k ≡ true → Hit (suc i) (suc i + k)) → (b : Bool) → p i ≡ b → cond b true (seek p yes no (suc i) k) ≡ true → Hit i (i + suc k)
   hit-by k i ih true e t = record { at = i; from-a = omega arith; below-e = omega arith; holds = e }
   hit-by k i ih false e t = let h = ih t in record { at = h .at; from-a = omega (arith, h .from-a); below-e = omega (arith, h .below-e); holds = h .holds }
 
-  hit-from : (k i : ℕ) → search p yes no i k ≡ true → Hit i (i + k)
-  unfolding search
+  hit-from : (k i : ℕ) → seek p yes no i k ≡ true → Hit i (i + k)
+  unfolding seek
   hit-from zero i t = absurd (true≢false (sym t))
   hit-from (suc k) i t = hit-by k i (hit-from k (suc i)) (p i) refl t
 
@@ -105,11 +105,11 @@ module _ (p : ℕ → Bool) where
   cond-no true c e = absurd (true≢false e)
   cond-no false c e = (refl, e)
 
-  none-from : (k i j : ℕ) → search p yes no i k ≡ false → i ≤ j → j < i + k → p j ≡ false
-  unfolding search
+  none-from : (k i j : ℕ) → seek p yes no i k ≡ false → i ≤ j → j < i + k → p j ≡ false
+  unfolding seek
   none-from zero i j t l h = absurd (omega arith)
   none-from (suc k) i j t l h =
-      let c = cond-no (p i) (search p yes no (suc i) k) t in
+      let c = cond-no (p i) (seek p yes no (suc i) k) t in
       none-by k i j (none-from k (suc i) j (c .1)) l h (c .0)
 
   pub some-hit : (a e : ℕ) → some p a e ≡ true → Hit a e

@@ -4,7 +4,7 @@ use mathlib.Core.Bool.{Bool, cond, not, _&&_, _||_}
 use mathlib.Core.List.{List, [], _∷_, _++_}
 use lib.ListN.{length}
 use lib.Dec.{ltb, leb, eqb}
-use Rattle.lists.specs.Search.{search, first, some}
+use Rattle.lists.specs.Search.{seek, first, some}
 use Rattle.tables.specs.Verdicts.{sideNumber, Check, when, verdictOf}
 use Rattle.tables.specs.Format.{known, rowSize, mostItems, versionIn, lengthIn, roleIn, statesIn, startIn, finishIn, lettersIn, rowsIn, rowAt, noRows, rowsOf, tableOf, zeroTable}
 use Rattle.tables.specs.declared.Row.{Row}
@@ -76,7 +76,7 @@ orderCheck bs s = when 8 s (first (fallRow bs) (rowsIn bs)) (some (fallRow bs) 0
 
 -- 7 is tried over a whole table before 8
 unfoldable pub rowChecks : List ℕ → ℕ → List Check
-unfolding search badRow fallRow
+unfolding seek badRow fallRow
 rowChecks bs s = fieldCheck bs s ∷ orderCheck bs s ∷ []
 
 abbrev pub checks : List ℕ → ℕ → List Check

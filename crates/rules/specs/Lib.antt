@@ -1,0 +1,5 @@
+pub mod Configurations
+pub mod Sets
+pub mod Kept
+pub mod Bridges
+pub mod Computed

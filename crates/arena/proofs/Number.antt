@@ -9,7 +9,6 @@ use native.Mathlib.Nat.{add-zero, suc-add, add-suc, div-one, pow-suc, pow-succ',
 use native.Mathlib.Numerals.{add-one}
 use native.Mathlib.Omega.{arith}
 use lib.Dec.{T}
-use lib.Bits.{bitOr, or-shifted-r}
 use lib.Count.{ones, ones-step, ones-ones, trailingZeros, under}
 use Rattle.lists.specs.Lists.{tabFrom, tab, count}
 use Rattle.lists.specs.Search.{seek, itself, first}
@@ -128,10 +127,19 @@ module _ (f : ℕ → Bool) where
   unfolding number
   number-none = refl
 
-  pub number-hit : (m : ℕ) → f m ≡ true → bitOr (number f m) (2 ^ m) ≡ number f (m + 1)
+  pub number-next : (m : ℕ) → number f (m + 1) ≡ digit (f m) * 2 ^ m + number f m
   unfolding number
-  number-hit m e = rw (add-one, e) (ap (bitOr (number f m)) (omega arith) ∙ or-shifted-r 1 m (number f m) (number-below m))
+  number-next m = rw add-one
 
-  pub number-miss : (m : ℕ) → f m ≡ false → number f m ≡ number f (m + 1)
-  unfolding number
-  number-miss m e = rw (add-one, e) (omega arith)
+-- ---- two tests
+
+pub number-same : (f g : ℕ → Bool) (n : ℕ) → ((m : ℕ) → m < n → f m ≡ g m) → number f n ≡ number g n
+unfolding number
+number-same f g zero e = refl
+number-same f g (suc n) e = ap₂ (λ (b : Bool) (x : ℕ). digit b * 2 ^ n + x) (e n (omega arith)) (number-same f g n (λ m h. e m (omega arith)))
+
+-- a test that no move passes
+pub number-off : (f : ℕ → Bool) (n : ℕ) → ((m : ℕ) → m < n → f m ≡ false) → number f n ≡ 0
+unfolding number
+number-off f zero e = refl
+number-off f (suc n) e = rw (e n (omega arith), number-off f n (λ m h. e m (omega arith))) (omega arith)

@@ -22,9 +22,9 @@ use Rattle.tables.specs.declared.Side.the-variants.{Writer, Reader}
 use Rattle.tables.specs.declared.Reading.{Reading}
 use Rattle.tables.specs.declared.Verdict.{Verdict}
 use Rattle.tables.specs.declared.Verdict.the-variants.{Fine, Refused}
-use Rattle.tables.proofs.Verdicts.{refused-not-fine, Silent, fine-silent, fine-front, fine-goes-on}
+use Rattle.tables.proofs.Verdicts.{Silent, fine-silent, fine-front, fine-goes-on}
 use Rattle.tables.proofs.Rows.{Fits, fits-of, no-fall}
-use Rattle.tables.proofs.Readings.{HeaderFine, header-of}
+use Rattle.tables.proofs.Readings.{HeaderFine, header-of, read-verdict}
 
 -- ---- the rows of the table in hand are those of the bytes, and zero past them
 
@@ -52,13 +52,8 @@ module _ (bs : List ℕ) where
 
 -- ---- a reading that is fine
 
-verdict-by : (v : Verdict) (bs : List ℕ) → readAs v bs .verdict ≡ Fine → v ≡ Fine
-verdict-by Fine bs e = refl
-verdict-by (Refused n s r) bs e = absurd (refused-not-fine e)
-
 pub fine-checks : (bs : List ℕ) (side : Side) → readOf bs side .verdict ≡ Fine → verdictOf (checks bs (sideNumber side)) ≡ Fine
-unfolding readOf
-fine-checks bs side e = verdict-by (verdictOf (checks bs (sideNumber side))) bs e
+fine-checks bs side e = sym (read-verdict bs side) ∙ e
 
 pub fine-table : (bs : List ℕ) (side : Side) → readOf bs side .verdict ≡ Fine → readOf bs side .table ≡ tableOf bs
 unfolding readOf

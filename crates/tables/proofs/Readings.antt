@@ -11,7 +11,7 @@ use Rattle.lists.specs.Search.{first, some}
 use Rattle.lists.proofs.Search.{first-some, first-none}
 use Rattle.tables.specs.Verdicts.{sideNumber, verdictOf}
 use Rattle.tables.specs.Format.{versionIn, roleIn, rowsIn, tableOf}
-use Rattle.tables.specs.Reads.{badRow, fallRow, headerChecks, rowChecks, checks, refusedAs, readOf}
+use Rattle.tables.specs.Reads.{badRow, fallRow, headerChecks, rowChecks, checks, refusedAs, readAs, readOf}
 use Rattle.tables.specs.declared.Side.{Side}
 use Rattle.tables.specs.declared.Verdict.{Verdict}
 use Rattle.tables.specs.declared.Verdict.the-variants.{Fine, Refused}
@@ -83,3 +83,12 @@ module _ (bs : List ℕ) (side : Side) {v : Verdict} {s : ℕ} (told : v ≡ ver
 -- the header of a table that is fine
 pub header-of : (bs : List ℕ) (s : ℕ) → verdictOf (checks bs s) ≡ Fine → HeaderFine bs s
 header-of bs s e = header-says bs s (fine-front (headerChecks bs s) (rowChecks bs s) e)
+
+-- the verdict of a reading
+verdict-as : (v : Verdict) (bs : List ℕ) → readAs v bs .verdict ≡ v
+verdict-as Fine bs = refl
+verdict-as (Refused n t r) bs = refl
+
+pub read-verdict : (bs : List ℕ) (side : Side) → readOf bs side .verdict ≡ verdictOf (checks bs (sideNumber side))
+unfolding readOf
+read-verdict bs side = verdict-as (verdictOf (checks bs (sideNumber side))) bs

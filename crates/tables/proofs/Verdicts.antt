@@ -4,7 +4,7 @@ use native.Mathlib.Omega.{arith}
 use mathlib.Core.Path.{_≡_, refl, sym, _∙_}
 use mathlib.Core.Bool.{Bool, true, false, cond}
 use mathlib.Core.List.{List, [], _∷_, _++_}
-use Rattle.tables.specs.Verdicts.{Check, verdictOf}
+use Rattle.tables.specs.Verdicts.{Check, verdictOf, andThen}
 use Rattle.tables.specs.declared.Verdict.{Verdict}
 use Rattle.tables.specs.declared.Verdict.the-variants.{Fine, Refused}
 
@@ -26,26 +26,31 @@ fine-silent (c ∷ cs) e = let h = silent-by (c .applies) (c .number) (c .side) 
 
 -- ---- checks that are followed by others
 
-pub fine-front : (cs ds : List Check) → verdictOf (cs ++ ds) ≡ Fine → verdictOf cs ≡ Fine
-fine-front [] ds e = refl
-fine-front (c ∷ cs) ds e =
-    let h = silent-by (c .applies) (c .number) (c .side) (c .row) (verdictOf (cs ++ ds)) e in
-    rw (h .0) (fine-front cs ds (h .1))
-
-pub fine-goes-on : (cs ds : List Check) → verdictOf cs ≡ Fine → verdictOf ds ≡ verdictOf (cs ++ ds)
-fine-goes-on [] ds e = refl
-fine-goes-on (c ∷ cs) ds e =
-    let h = silent-by (c .applies) (c .number) (c .side) (c .row) (verdictOf cs) e in
-    rw (h .0) (fine-goes-on cs ds (h .1))
-
-pub refused-stays : (cs ds : List Check) {n s r : ℕ} → verdictOf cs ≡ Refused n s r → verdictOf cs ≡ verdictOf (cs ++ ds)
-refused-stays [] ds e = absurd (refused-not-fine (sym e))
-refused-stays (c ∷ cs) ds {n} {s} {r} e = go (refused-stays cs ds) (c .applies) e
+pub verdict-append : (cs ds : List Check) → verdictOf (cs ++ ds) ≡ andThen (verdictOf cs) (verdictOf ds)
+verdict-append [] ds = refl
+verdict-append (c ∷ cs) ds = go (verdict-append cs ds) (c .applies)
   where
     it : Verdict
     it = Refused (c .number) (c .side) (c .row)
 
-    go : (verdictOf cs ≡ Refused n s r → verdictOf cs ≡ verdictOf (cs ++ ds))
-        → (t : Bool) → cond t it (verdictOf cs) ≡ Refused n s r → cond t it (verdictOf cs) ≡ cond t it (verdictOf (cs ++ ds))
-    go later true q = refl
-    go later false q = later q
+    go : verdictOf (cs ++ ds) ≡ andThen (verdictOf cs) (verdictOf ds)
+        → (t : Bool) → cond t it (verdictOf (cs ++ ds)) ≡ andThen (cond t it (verdictOf cs)) (verdictOf ds)
+    go later true = refl
+    go later false = later
+
+pub then-fine : (v w : Verdict) → andThen v w ≡ Fine → (v ≡ Fine) × (w ≡ Fine)
+then-fine Fine w e = (refl, e)
+then-fine (Refused n s r) w e = absurd (refused-not-fine e)
+
+pub then-refused : {v : Verdict} {n s r : ℕ} (w : Verdict) → v ≡ Refused n s r → v ≡ andThen v w
+then-refused w e = rw e
+
+module _ (cs ds : List Check) where
+  pub fine-front : verdictOf (cs ++ ds) ≡ Fine → verdictOf cs ≡ Fine
+  fine-front e = then-fine (verdictOf cs) (verdictOf ds) (sym (verdict-append cs ds) ∙ e) .0
+
+  pub fine-goes-on : verdictOf cs ≡ Fine → verdictOf ds ≡ verdictOf (cs ++ ds)
+  fine-goes-on e = sym (verdict-append cs ds ∙ rw e)
+
+  pub refused-stays : {n s r : ℕ} → verdictOf cs ≡ Refused n s r → verdictOf cs ≡ verdictOf (cs ++ ds)
+  refused-stays e = then-refused (verdictOf ds) e ∙ sym (verdict-append cs ds)

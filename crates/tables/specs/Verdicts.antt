@@ -40,3 +40,8 @@ when number side row applies = record { number = number; side = side; row = row;
 abbrev pub verdictOf : List Check → Verdict
 verdictOf [] = Fine
 verdictOf (c ∷ cs) = cond (c .applies) (Refused (c .number) (c .side) (c .row)) (verdictOf cs)
+
+-- the second verdict where the first is fine
+abbrev pub andThen : Verdict → Verdict → Verdict
+andThen Fine v = v
+andThen (Refused number side row) v = Refused number side row

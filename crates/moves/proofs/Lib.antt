@@ -1,0 +1,9 @@
+pub mod Filling
+pub mod Signed
+pub mod Products
+pub mod Tests
+pub mod StateRows
+pub mod Allowed
+pub mod Entering
+pub mod Asking
+pub mod Answers

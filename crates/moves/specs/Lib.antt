@@ -1,0 +1,6 @@
+pub mod Columns
+pub mod Outcomes
+pub mod Calls
+pub mod Ask
+pub mod Enter
+pub mod Asks

@@ -1,0 +1,4 @@
+pub mod Hits
+pub mod Sweeps
+pub mod Rounds
+pub mod Build

@@ -1,0 +1,189 @@
+// The text of the listing, line by line into a lent buffer, and the cut of the program's input. Numbers in, bytes out:
+// nothing here knows of tables, sets of configurations or the builder.
+ghost use Prim.Native.Nat.{_+_, _≤_, _<_};
+ghost use mathlib.Core.Path.{_≡_};
+ghost use mathlib.Core.List.{[], _∷_};
+ghost use lib.ListN.{length};
+ghost use Rattle.lines.specs.Text.{decimal, field, lineEnd, moveText, bitText, movesBelow, firstLine, confLine, refusalLine};
+ghost use Rattle.lines.specs.Written.{Put, Written};
+ghost use Rattle.lines.specs.Cut.{writerBytes, cutOf};
+
+// The writer's table is the bytes below `writer`, the reader's those from `writer` to below `reader`.
+pub struct Cut {
+    pub writer: usize,
+    pub reader: usize,
+    pub bound: u64,
+}
+
+fn digit(d: u64) -> u8
+    requires { ⌜ d < 10 ⌝ }
+    ensures { λ r. ⌜ r ≡ 48 + d ⌝ }
+{
+    48 + d as u8
+}
+
+// Each put stores a piece from a place of the buffer on, and answers the place behind it. The buffer is a slice here:
+// lending the array as a slice is what tells its length.
+fn put_byte(out: &mut [u8], at: usize, b: u8) -> usize
+    requires { ⌜ at < length (now out) ⌝ }
+    ensures { λ r. ⌜ Put (b ∷ []) at (now (out .entry)) r (now (out .exit)) ⌝ }
+{
+    out[at] = b;
+    at + 1
+}
+
+fn put(out: &mut [u8], at: usize, piece: &[u8]) -> usize
+    requires { ⌜ at + length (now piece) ≤ length (now out) ⌝ }
+    ensures { λ r. ⌜ Put (now (piece .entry)) at (now (out .entry)) r (now (out .exit)) ⌝ }
+{
+    let mut i = 0;
+    while i < piece.len() {
+        out[at + i] = piece[i];
+        i += 1;
+    }
+    at + i
+}
+
+// The digits of n / 10, and then the last: at most 20 calls deep.
+fn put_number(out: &mut [u8], at: usize, n: u64) -> usize
+    requires { ⌜ at + length (decimal n) ≤ length (now out) ⌝ }
+    ensures { λ r. ⌜ Put (decimal n) at (now (out .entry)) r (now (out .exit)) ⌝ }
+{
+    if n < 10 {
+        return put_byte(out, at, digit(n));
+    }
+    let last = put_number(out, at, n / 10);
+    put_byte(out, last, digit(n % 10))
+}
+
+// A word and a number behind it; no u64 has more than 20 digits.
+fn put_field(out: &mut [u8], at: usize, word: &[u8], n: u64) -> usize
+    requires { ⌜ at + length (now word) + 20 ≤ length (now out) ⌝ }
+    ensures { λ r. ⌜ Put (field (now (word .entry)) n) at (now (out .entry)) r (now (out .exit)) ⌝ }
+    ensures { λ r. ⌜ r ≤ at + length (now (word .entry)) + 20 ⌝ }
+{
+    let number = put(out, at, word);
+    put_number(out, number, n)
+}
+
+// The move of bit m = 8x + y.
+fn put_move(out: &mut [u8], at: usize, m: u64) -> usize
+    requires { ⌜ (at + 4 ≤ length (now out)) × (m < 64) ⌝ }
+    ensures { λ r. ⌜ Put (moveText m) at (now (out .entry)) r (now (out .exit)) ⌝ }
+{
+    let x = digit(m / 8);
+    let y = digit(m % 8);
+    let piece = [b' ', x, b'.', y];
+    put(out, at, &piece)
+}
+
+// The move of bit m, if the set has it.
+fn put_bit(out: &mut [u8], at: usize, set: u64, m: u64) -> usize
+    requires { ⌜ (at + 4 ≤ length (now out)) × (m < 64) ⌝ }
+    ensures { λ r. ⌜ Put (bitText set m) at (now (out .entry)) r (now (out .exit)) ⌝ }
+{
+    if (set >> m) % 2 == 1 {
+        return put_move(out, at, m);
+    }
+    at
+}
+
+fn put_moves(out: &mut [u8], at: usize, set: u64) -> usize
+    requires { ⌜ at + 256 ≤ length (now out) ⌝ }
+    ensures { λ r. ⌜ Put (movesBelow set 64) at (now (out .entry)) r (now (out .exit)) ⌝ }
+    ensures { λ r. ⌜ r ≤ at + 256 ⌝ }
+{
+    let mut next = at;
+    let mut m = 0;
+    while m < 64 {
+        next = put_bit(out, next, set, m);
+        m += 1;
+    }
+    next
+}
+
+fn end_line(out: &mut [u8], at: usize) -> usize
+    requires { ⌜ at < length (now out) ⌝ }
+    ensures { λ r. ⌜ Put lineEnd at (now (out .entry)) r (now (out .exit)) ⌝ }
+{
+    put(out, at, b"\n")
+}
+
+// Each of the three lines is written at the start of the buffer, which has room for it at any numbers; the answer is its
+// length.
+pub fn first_line(out: &mut [u8; 512], kept: u64, of: u64, rounds: u64, bound: u64) -> usize
+    ensures { λ r. ⌜ Written (firstLine kept of rounds bound) (now (out .entry)) r (now (out .exit)) ⌝ }
+{
+    let second = put_field(out, 0, b"converter kept=", kept);
+    let third = put_field(out, second, b" of=", of);
+    let fourth = put_field(out, third, b" rounds=", rounds);
+    let end = put_field(out, fourth, b" bound=", bound);
+    end_line(out, end)
+}
+
+pub fn conf_line(
+    out: &mut [u8; 512],
+    writer_state: u64,
+    reader_state: u64,
+    level: u64,
+    set: u64,
+) -> usize
+    ensures { λ r. ⌜ Written (confLine «writer_state» «reader_state» level set) (now (out .entry)) r (now (out .exit)) ⌝ }
+{
+    let second = put_field(out, 0, b"", writer_state);
+    let third = put_field(out, second, b" ", reader_state);
+    let word = put_field(out, third, b" ", level);
+    let moves = put(out, word, b" moves");
+    let end = put_moves(out, moves, set);
+    end_line(out, end)
+}
+
+pub fn refusal_line(out: &mut [u8; 512], number: u64, side: u64, row: u64) -> usize
+    ensures { λ r. ⌜ Written (refusalLine number side row) (now (out .entry)) r (now (out .exit)) ⌝ }
+{
+    let second = put_field(out, 0, b"refused ", number);
+    let third = put_field(out, second, b" side ", side);
+    let end = put_field(out, third, b" row ", row);
+    end_line(out, end)
+}
+
+fn wide(x: u8) -> usize
+    ensures { λ r. ⌜ (r ≡ x) × (r < 256) ⌝ }
+{
+    x as usize
+}
+
+// How many bytes the writer's table gets.
+fn writer_end(input: &[u8]) -> usize
+    ensures { λ r. ⌜ r ≡ writerBytes (now (input .entry)) ⌝ }
+{
+    if input.len() < 3 {
+        return input.len();
+    }
+    let end = 3 + 256 * wide(input[1]) + wide(input[2]);
+    if input.len() < end {
+        return input.len();
+    }
+    end
+}
+
+// Cuts the program's input into writer table, reader table and bound.
+pub fn cut_input(input: &[u8]) -> Cut
+    ensures { λ r. ⌜ r ≡ cutOf (now (input .entry)) ⌝ }
+{
+    let writer = writer_end(input);
+    if writer == input.len() {
+        return Cut {
+            writer: writer,
+            reader: writer,
+            bound: 0,
+        };
+    }
+    let last = input.len() - 1;
+    let bound = wide(input[last]);
+    Cut {
+        writer: writer,
+        reader: last,
+        bound: bound as u64,
+    }
+}

@@ -1,0 +1,95 @@
+// Entry points for the generator: build and ask on byte slices and numbers, each returning one 64-bit number.
+// Document 01, "The calls and what they return".
+ghost use mathlib.Core.Path.{_≡_};
+ghost use Prim.Native.Nat.{_<_, _^_};
+ghost use Rattle.moves.specs.Ask.{askOf};
+ghost use Rattle.moves.specs.Asks.{confWith};
+ghost use Rattle.bridge.specs.Packed.{packed, packedWith, packedAsked, PackedBuild};
+use build::build;
+use moves::ask;
+use tables::Verdict;
+
+fn wide(x: u8) -> u64
+    ensures { λ z. ⌜ z ≡ x ⌝ }
+{
+    x as u64
+}
+
+fn pack(number: u8, side: u8, row: u8, fourth: u64, fifth: u64) -> u64
+    requires { ⌜ (fourth < 2 ^ 16) × (fifth < 2 ^ 16) ⌝ }
+    ensures { λ z. ⌜ z ≡ packed number side row fourth fifth ⌝ }
+{
+    wide(number)
+        + 0x100 * wide(side)
+        + 0x1_0000 * wide(row)
+        + 0x1_0000_0000 * fourth
+        + 0x1_0000_0000_0000 * fifth
+}
+
+fn pack_verdict(verdict: Verdict, fourth: u64, fifth: u64) -> u64
+    requires { ⌜ (fourth < 2 ^ 16) × (fifth < 2 ^ 16) ⌝ }
+    ensures { λ z. ⌜ z ≡ packedWith verdict fourth fifth ⌝ }
+{
+    match verdict {
+        Verdict::Fine => pack(0, 0, 0, fourth, fifth),
+        Verdict::Refused { number, side, row } => pack(number, side, row, fourth, fifth),
+    }
+}
+
+#[no_mangle]
+pub extern "C" fn bridge_build(writer: &[u8], reader: &[u8], bound: u64, buffer: &mut [u8]) -> u64
+    ensures { λ z. ⌜ PackedBuild (now (writer .entry)) (now (reader .entry)) bound (now (buffer .entry)) (now (buffer .exit)) z ⌝ }
+{
+    let b = build(writer, reader, bound, buffer);
+    let v = b.verdict;
+    pack_verdict(v, b.kept, b.rounds)
+}
+
+#[no_mangle]
+pub extern "C" fn bridge_ask(
+    writer: &[u8],
+    reader: &[u8],
+    bound: u64,
+    kept: &[u8],
+    writer_state: u64,
+    reader_state: u64,
+    level: u64,
+) -> u64
+    ensures { λ z. ⌜ z ≡ packedAsked (askOf (now (writer .entry)) (now (reader .entry)) bound (now (kept .entry)) (confWith «writer_state» «reader_state» level)) ⌝ }
+{
+    let a = ask(
+        writer,
+        reader,
+        bound,
+        kept,
+        writer_state,
+        reader_state,
+        level,
+    );
+    let v = a.verdict;
+    pack_verdict(v, a.count as u64, a.lowest as u64)
+}
+
+#[no_mangle]
+pub extern "C" fn bridge_ask_set(
+    writer: &[u8],
+    reader: &[u8],
+    bound: u64,
+    kept: &[u8],
+    writer_state: u64,
+    reader_state: u64,
+    level: u64,
+) -> u64
+    ensures { λ z. ⌜ z ≡ askOf (now (writer .entry)) (now (reader .entry)) bound (now (kept .entry)) (confWith «writer_state» «reader_state» level) .set ⌝ }
+{
+    let a = ask(
+        writer,
+        reader,
+        bound,
+        kept,
+        writer_state,
+        reader_state,
+        level,
+    );
+    a.set
+}

@@ -1,0 +1,5 @@
+pub mod Results
+pub mod Demand2
+pub mod Demand3
+pub mod Worked
+pub mod OneResult

@@ -1,0 +1,149 @@
+// The listing: document 01, "The listing". It reads, and writes what `pages` gives; with no input it lists the worked pairs.
+use libc::STDIN_FILENO;
+use libc::STDOUT_FILENO;
+
+const A_WRITER: [u8; 24] = [
+    1,
+    0,
+    21,
+    1,
+    2,
+    0,
+    1,
+    2,
+    3,
+    0,
+    0,
+    0,
+    0,
+    0,
+    0,
+    1,
+    1,
+    1,
+    1,
+    1,
+    0,
+    0,
+    0,
+    1,
+];
+
+const A_READER: [u8; 24] = [
+    1,
+    0,
+    21,
+    2,
+    2,
+    0,
+    1,
+    2,
+    3,
+    0,
+    0,
+    0,
+    0,
+    0,
+    0,
+    1,
+    1,
+    1,
+    1,
+    1,
+    0,
+    0,
+    0,
+    1,
+];
+
+const C_WRITER: [u8; 34] = [
+    1,
+    0,
+    31,
+    1,
+    3,
+    0,
+    1,
+    2,
+    5,
+    0,
+    0,
+    0,
+    0,
+    0,
+    0,
+    1,
+    1,
+    1,
+    1,
+    0,
+    1,
+    2,
+    1,
+    2,
+    1,
+    0,
+    0,
+    0,
+    1,
+    2,
+    0,
+    3,
+    1,
+    1,
+];
+
+const C_READER: [u8; 19] = [1, 0, 16, 2, 1, 0, 0, 2, 2, 0, 0, 0, 0, 0, 0, 1, 1, 1, 0];
+
+// Builds into the lent bytes, and prints the first line or the refusal.
+fn list_head(writer: &[u8], reader: &[u8], bound: u64, kept: &mut [u8]) {
+    let mut out = [0u8; 512];
+    let n = pages::head(&mut out, writer, reader, bound, kept);
+    io::write_all(STDOUT_FILENO, &out[..n]);
+}
+
+fn list_place(writer: &[u8], reader: &[u8], bound: u64, kept: &[u8], p: usize) {
+    let mut out = [0u8; 512];
+    let n = pages::place_line(&mut out, writer, reader, bound, kept, p);
+    io::write_all(STDOUT_FILENO, &out[..n]);
+}
+
+// No place that is not kept has a line, so all bytes of a refused pair, and those past N, print nothing.
+fn list_places(writer: &[u8], reader: &[u8], bound: u64, kept: &[u8]) {
+    let mut p = 0;
+    while p < kept.len() {
+        list_place(writer, reader, bound, kept, p);
+        p += 1;
+    }
+}
+
+fn list(writer: &[u8], reader: &[u8], bound: u64) {
+    let mut kept = [0u8; 4096];
+    list_head(writer, reader, bound, &mut kept);
+    list_places(writer, reader, bound, &kept);
+}
+
+fn list_input(input: &[u8]) {
+    let cut = lines::cut_input(input);
+    let first = cut.writer;
+    let last = cut.reader;
+    list(&input[..first], &input[first..last], cut.bound);
+}
+
+fn list_worked() {
+    list(&A_WRITER, &A_READER, 0);
+    list(&A_WRITER, &A_READER, 1);
+    list(&A_WRITER, &A_READER, 2);
+    list(&C_WRITER, &C_READER, 1);
+    list(&C_WRITER, &C_READER, 2);
+}
+
+fn main() {
+    let mut input = [0u8; 1024];
+    let n = io::read_full(STDIN_FILENO, &mut input);
+    if n == 0 {
+        list_worked();
+        return;
+    }
+    list_input(&input[..n]);
+}

@@ -1,0 +1,94 @@
+// The listing of one pair, a line at a time into a lent buffer: its first line or its refusal, and the line of each place.
+// A program can only be proved to be safe, not to print the right bytes, so whatever decides the bytes is here.
+ghost use mathlib.Core.Path.{_≡_};
+ghost use Prim.Native.Nat.{_≤_, _<_};
+ghost use Rattle.tables.specs.Verdicts.{verdictOf};
+ghost use Rattle.tables.specs.declared.Verdict.the-variants.{Fine};
+ghost use Rattle.rules.specs.Configurations.{size};
+ghost use Rattle.moves.specs.Calls.{pairOf, enterChecks};
+ghost use Rattle.lines.specs.Written.{Written};
+ghost use Rattle.pages.specs.Pages.{HeadSays, placeText, spotAt, spotText};
+use build::build;
+use lines::conf_line;
+use lines::first_line;
+use lines::refusal_line;
+use moves::ask;
+use moves::calls::enter;
+use moves::places::places;
+use tables::Verdict;
+
+// N, of a pair that 1 to 9 do not refuse.
+fn all_places(writer: &[u8], reader: &[u8], bound: u64) -> u64
+    requires { ⌜ verdictOf (enterChecks (now writer) (now reader) bound) ≡ Fine ⌝ }
+    ensures { λ r. ⌜ r ≡ size (pairOf (now (writer .entry)) (now (reader .entry)) bound) ⌝ }
+{
+    let e = enter(writer, reader, bound);
+    let w = e.writer;
+    let r = e.reader;
+    places(w.states, r.states, bound as u8) as u64
+}
+
+// Builds into the lent bytes, and writes the first line of the listing, or the line of a refusal.
+pub fn head(out: &mut [u8; 512], writer: &[u8], reader: &[u8], bound: u64, kept: &mut [u8]) -> usize
+    ensures { λ r. ⌜ HeadSays (now (writer .entry)) (now (reader .entry)) bound (now (kept .entry)) (now (kept .exit)) (now (out .entry)) r (now (out .exit)) ⌝ }
+{
+    let b = build(writer, reader, bound, kept);
+    let v = b.verdict;
+    let Verdict::Refused { number, side, row } = v else {
+        let n = all_places(writer, reader, bound);
+        return first_line(out, b.kept, n, b.rounds, bound);
+    };
+    refusal_line(out, number as u64, side as u64, row as u64)
+}
+
+// The line of the configuration at place p, where the reader has so many states.
+fn spot_line(
+    out: &mut [u8; 512],
+    writer: &[u8],
+    reader: &[u8],
+    bound: u64,
+    kept: &[u8],
+    p: u64,
+    readers: u64,
+) -> usize
+    requires { ⌜ (0 < readers) × (bound ≤ 15) ⌝ }
+    ensures { λ r. ⌜ Written (spotText (now (writer .entry)) (now (reader .entry)) bound (now (kept .entry)) (spotAt readers bound p)) (now (out .entry)) r (now (out .exit)) ⌝ }
+{
+    let levels = bound + 1;
+    let states = p / levels;
+    let ws = states / readers;
+    let rs = states % readers;
+    let level = p % levels;
+    let a = ask(writer, reader, bound, kept, ws, rs, level);
+    let v = a.verdict;
+    let Verdict::Fine = v else {
+        return 0;
+    };
+    conf_line(out, ws, rs, level, a.set)
+}
+
+// The line of place p, if the lent bytes keep it; no byte else.
+pub fn place_line(
+    out: &mut [u8; 512],
+    writer: &[u8],
+    reader: &[u8],
+    bound: u64,
+    kept: &[u8],
+    p: usize,
+) -> usize
+    ensures { λ r. ⌜ Written (placeText (now (writer .entry)) (now (reader .entry)) bound (now (kept .entry)) p) (now (out .entry)) r (now (out .exit)) ⌝ }
+{
+    if kept.len() <= p {
+        return 0;
+    }
+    if kept[p] != 1 {
+        return 0;
+    }
+    let e = enter(writer, reader, bound);
+    let v = e.verdict;
+    let Verdict::Fine = v else {
+        return 0;
+    };
+    let r = e.reader;
+    spot_line(out, writer, reader, bound, kept, p as u64, r.states as u64)
+}

@@ -1,0 +1,133 @@
+//! The proved bridge builder, for Rust.
+//!
+//! Two protocol tables in bytes and the bound of the buffer between them go
+//! in; out come the configurations in which a bridge can stay for ever
+//! without losing an item and can always still finish ([`build`]), and the
+//! moves that are allowed at each ([`ask`]). Every call takes anything: what
+//! is not a table is refused, with a reason.
+//!
+//! ```
+//! use bridge::{ask, build, Configuration};
+//!
+//! // Two states a side: letter 0 waits, letter 1 moves an item to the end.
+//! let mut writer = [0; 24];
+//! writer[..9].copy_from_slice(&[1, 0, 21, 1, 2, 0, 1, 2, 3]);
+//! writer[9..].copy_from_slice(&[0, 0, 0, 0, 0, 0, 1, 1, 1, 1, 1, 0, 0, 0, 1]);
+//! let mut reader = writer;
+//! reader[3] = 2;
+//!
+//! let mut kept = [0; 8];
+//! let built = build(&writer, &reader, 1, &mut kept)?;
+//! assert_eq!((built.kept, built.rounds), (3, 2));
+//! assert_eq!(kept, [1, 0, 0, 0, 0, 1, 1, 0]);
+//!
+//! let start = Configuration { writer: 0, reader: 0, level: 0 };
+//! let moves = ask(&writer, &reader, 1, &kept, start)?;
+//! assert_eq!(moves.iter().collect::<Vec<_>>(), [(0, 0), (1, 0)]);
+//! # Ok::<(), bridge::Refusal>(())
+//! ```
+
+#![deny(unsafe_op_in_unsafe_fn)]
+#![warn(missing_docs)]
+
+mod moves;
+pub mod packed;
+mod refusal;
+
+pub use moves::{Iter, Moves};
+pub use refusal::{Refusal, Side};
+
+/// What an accepted pair gives beside the kept bytes.
+#[derive(Clone, Copy, Debug, PartialEq, Eq)]
+pub struct Built {
+    /// How many configurations are kept.
+    pub kept: u64,
+    /// How many rounds it took; the last, which removed nothing, is counted.
+    pub rounds: u64,
+}
+
+/// Where both sides stand, and how many items are held.
+#[derive(Clone, Copy, Debug, PartialEq, Eq, PartialOrd, Ord, Hash)]
+pub struct Configuration {
+    /// The writer's state.
+    pub writer: u64,
+    /// The reader's state.
+    pub reader: u64,
+    /// The items in the buffer.
+    pub level: u64,
+}
+
+/// Builds the largest set of configurations that a bridge can keep to.
+///
+/// `buffer` has a byte for each of the N = n1 × n2 × (bound + 1)
+/// configurations; 4,096 bytes are enough for any pair. The place of one is
+/// `(writer * n2 + reader) * (bound + 1) + level`.
+///
+/// If the pair is accepted the first N bytes are 1 where the configuration is
+/// kept and 0 elsewhere; if there is no bridge (refusal 11) they are 0; at
+/// any other refusal the buffer stands as it was. Bytes past N are never
+/// written.
+///
+/// ```
+/// // One state a side and no rows: what is at its end already may stay there.
+/// let writer = [1, 0, 6, 1, 1, 0, 0, 1, 0];
+/// let reader = [1, 0, 6, 2, 1, 0, 0, 1, 0];
+/// let mut buffer = [7; 3];
+/// let built = bridge::build(&writer, &reader, 0, &mut buffer).unwrap();
+/// assert_eq!((built.kept, built.rounds, buffer), (1, 1, [1, 7, 7]));
+///
+/// let refusal = bridge::build(&writer, &writer, 0, &mut buffer).unwrap_err();
+/// assert_eq!(
+///     refusal.to_string(),
+///     "the reader's table has the role of the other side (refusal 4, side 2, row 0)"
+/// );
+/// ```
+pub fn build(
+    writer: &[u8],
+    reader: &[u8],
+    bound: u64,
+    buffer: &mut [u8],
+) -> Result<Built, Refusal> {
+    let number = packed::build(writer, reader, bound, buffer);
+    let built = Built {
+        kept: packed::fourth(number),
+        rounds: packed::fifth(number),
+    };
+    match Refusal::of(number) {
+        None => Ok(built),
+        Some(refusal) => Err(refusal.after(built.rounds)),
+    }
+}
+
+/// Which moves are allowed at a configuration, with respect to the set that
+/// the first N bytes of `kept` keep: any bytes of 0 and 1, built by [`build`]
+/// or not. At a configuration that is not kept there are none.
+///
+/// ```
+/// use bridge::{ask, Configuration};
+///
+/// let writer = [1, 0, 11, 1, 1, 0, 0, 1, 1, 0, 0, 0, 0, 0];
+/// let mut reader = writer;
+/// reader[3] = 2;
+/// let start = Configuration { writer: 0, reader: 0, level: 0 };
+/// assert!(ask(&writer, &reader, 0, &[1], start).unwrap().contains(0, 0));
+/// assert!(ask(&writer, &reader, 0, &[0], start).unwrap().is_empty());
+/// assert_eq!(ask(&writer, &reader, 0, &[2], start).unwrap_err().number, 12);
+/// ```
+pub fn ask(
+    writer: &[u8],
+    reader: &[u8],
+    bound: u64,
+    kept: &[u8],
+    at: Configuration,
+) -> Result<Moves, Refusal> {
+    let set = packed::ask_set(writer, reader, bound, kept, at);
+    if set != 0 {
+        return Ok(Moves::from_bits(set));
+    }
+    // A refusal's set is empty, and so may an answer's be: ask which it is.
+    match Refusal::of(packed::ask(writer, reader, bound, kept, at)) {
+        None => Ok(Moves::default()),
+        Some(refusal) => Err(refusal),
+    }
+}

@@ -1,0 +1,127 @@
+//! The entry points as they stand: one 64-bit number each.
+//!
+//! The number is number + 2^8 × side + 2^16 × row + 2^32 × kept + 2^48 ×
+//! rounds, with ask's count and lowest in the last two places.
+
+use crate::Configuration;
+
+mod entry {
+    extern "C" {
+        pub fn bridge_build(
+            writer: *const u8,
+            writer_len: usize,
+            reader: *const u8,
+            reader_len: usize,
+            bound: u64,
+            buffer: *mut u8,
+            buffer_len: usize,
+        ) -> u64;
+
+        pub fn bridge_ask(
+            writer: *const u8,
+            writer_len: usize,
+            reader: *const u8,
+            reader_len: usize,
+            bound: u64,
+            kept: *const u8,
+            kept_len: usize,
+            writer_state: u64,
+            reader_state: u64,
+            level: u64,
+        ) -> u64;
+
+        pub fn bridge_ask_set(
+            writer: *const u8,
+            writer_len: usize,
+            reader: *const u8,
+            reader_len: usize,
+            bound: u64,
+            kept: *const u8,
+            kept_len: usize,
+            writer_state: u64,
+            reader_state: u64,
+            level: u64,
+        ) -> u64;
+    }
+}
+
+/// Build's packed number.
+pub fn build(writer: &[u8], reader: &[u8], bound: u64, buffer: &mut [u8]) -> u64 {
+    // SAFETY: each pointer and length is one slice's, the lent buffer is
+    // borrowed alone, and the function is proved for any bytes and numbers:
+    // it has no `requires`, and reads and writes within the slices only.
+    unsafe {
+        entry::bridge_build(
+            writer.as_ptr(),
+            writer.len(),
+            reader.as_ptr(),
+            reader.len(),
+            bound,
+            buffer.as_mut_ptr(),
+            buffer.len(),
+        )
+    }
+}
+
+/// Ask's packed number.
+pub fn ask(writer: &[u8], reader: &[u8], bound: u64, kept: &[u8], at: Configuration) -> u64 {
+    // SAFETY: as in `build`; nothing is written.
+    unsafe {
+        entry::bridge_ask(
+            writer.as_ptr(),
+            writer.len(),
+            reader.as_ptr(),
+            reader.len(),
+            bound,
+            kept.as_ptr(),
+            kept.len(),
+            at.writer,
+            at.reader,
+            at.level,
+        )
+    }
+}
+
+/// Ask's set, bit 8x + y for the move x.y; 0 at a refusal.
+pub fn ask_set(writer: &[u8], reader: &[u8], bound: u64, kept: &[u8], at: Configuration) -> u64 {
+    // SAFETY: as in `build`; nothing is written.
+    unsafe {
+        entry::bridge_ask_set(
+            writer.as_ptr(),
+            writer.len(),
+            reader.as_ptr(),
+            reader.len(),
+            bound,
+            kept.as_ptr(),
+            kept.len(),
+            at.writer,
+            at.reader,
+            at.level,
+        )
+    }
+}
+
+/// The number of the refusal, 0 for done.
+pub fn number(packed: u64) -> u8 {
+    packed as u8
+}
+
+/// The side of the refusal: 0 none, 1 writes, 2 reads.
+pub fn side(packed: u64) -> u8 {
+    (packed >> 8) as u8
+}
+
+/// The row of the refusal.
+pub fn row(packed: u64) -> u16 {
+    (packed >> 16) as u16
+}
+
+/// The fourth place: build's kept count, or ask's count.
+pub fn fourth(packed: u64) -> u64 {
+    (packed >> 32) & 0xffff
+}
+
+/// The fifth place: build's rounds, or ask's lowest.
+pub fn fifth(packed: u64) -> u64 {
+    packed >> 48
+}

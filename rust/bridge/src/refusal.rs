@@ -1,0 +1,111 @@
+//! Refusals, in words and in numbers.
+
+use crate::packed;
+use std::fmt;
+
+/// One of the two sides.
+#[derive(Clone, Copy, Debug, PartialEq, Eq, Hash)]
+pub enum Side {
+    /// The writing side, 1.
+    Writer,
+    /// The reading side, 2.
+    Reader,
+}
+
+/// Why a call was refused.
+///
+/// ```
+/// let refusal = bridge::build(&[1, 0, 6], &[], 0, &mut []).unwrap_err();
+/// assert_eq!((refusal.number, refusal.side, refusal.row), (1, Some(bridge::Side::Writer), 0));
+/// let error: Box<dyn std::error::Error> = refusal.into();
+/// assert_eq!(
+///     error.to_string(),
+///     "the writer's table has fewer than 9 bytes (refusal 1, side 1, row 0)"
+/// );
+/// ```
+#[derive(Clone, Copy, Debug, PartialEq, Eq, Hash)]
+pub struct Refusal {
+    /// The number of the refusal, 1 to 16.
+    pub number: u8,
+    /// The side whose table it is about, if it is about one.
+    pub side: Option<Side>,
+    /// The row that it is about, counted from 0; 0 if it is about none.
+    pub row: u16,
+    /// The rounds made, if there is no bridge (11); else 0.
+    pub rounds: u64,
+}
+
+impl Refusal {
+    /// The refusal in a packed number, if it is one.
+    pub(crate) fn of(number: u64) -> Option<Refusal> {
+        let side = match packed::side(number) {
+            1 => Some(Side::Writer),
+            2 => Some(Side::Reader),
+            _ => None,
+        };
+        match packed::number(number) {
+            0 => None,
+            refused => Some(Refusal {
+                number: refused,
+                side,
+                row: packed::row(number),
+                rounds: 0,
+            }),
+        }
+    }
+
+    /// The same, after this many rounds.
+    pub(crate) fn after(self, rounds: u64) -> Refusal {
+        Refusal { rounds, ..self }
+    }
+
+    /// 0 for no side, 1 for the writer, 2 for the reader.
+    pub fn side_number(&self) -> u8 {
+        match self.side {
+            None => 0,
+            Some(Side::Writer) => 1,
+            Some(Side::Reader) => 2,
+        }
+    }
+
+    /// Whose table it is about.
+    fn whose(&self) -> &'static str {
+        match self.side {
+            None => "a",
+            Some(Side::Writer) => "the writer's",
+            Some(Side::Reader) => "the reader's",
+        }
+    }
+
+    /// What was wrong, after whose table it is.
+    fn reason(&self) -> &'static str {
+        match self.number {
+            1 => "table has fewer than 9 bytes",
+            2 => "table is not of version 1",
+            3 => "table's length field is not that of its bytes or of its rows",
+            4 => "table has the role of the other side",
+            5 => "table has states, letters or rows outside their range",
+            6 => "table's start or finish is none of its states",
+            7 => "table has a row with a field out of range",
+            8 => "table has a row that does not rise above the one before",
+            _ => "call was refused",
+        }
+    }
+}
+
+impl fmt::Display for Refusal {
+    fn fmt(&self, f: &mut fmt::Formatter<'_>) -> fmt::Result {
+        match self.number {
+            9 => write!(f, "the bound is above 15")?,
+            10 => write!(f, "the lent bytes are fewer than the configurations")?,
+            11 => write!(f, "there is no bridge: the start is not in the largest set")?,
+            12 => write!(f, "one of the kept bytes is neither 0 nor 1")?,
+            13 => write!(f, "there is no such configuration")?,
+            _ => write!(f, "{} {}", self.whose(), self.reason())?,
+        }
+        let (number, side, row) = (self.number, self.side_number(), self.row);
+        write!(f, " (refusal {number}, side {side}, row {row})")
+    }
+}
+
+impl std::error::Error for Refusal {}

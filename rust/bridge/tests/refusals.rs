@@ -1,0 +1,113 @@
+//! Damaged tables and calls at the limits, on both builders: number, side,
+//! row and the lent buffer.
+
+mod compare;
+
+use compare::{seeded, Compared};
+use inputs::*;
+
+#[test]
+fn damaged_pairs() {
+    let mut random = seeded(20261109);
+    let mut compared = Compared::new();
+    for _ in 0..40_000 {
+        let pair = damaged_pair(&mut random);
+        let room = random.pick(&[0, 3, 16, 80, 4_096]);
+        let (_, left) = compared.build(&pair, &patterned(room));
+        compared.ask(&pair, &left, (0, 0, 0));
+        compared.ask(&pair, &patterned(room), (0, 0, 0));
+        compared.ask(&pair, &vec![1; room], (random.below(5), 0, 0));
+    }
+    compared.print("damaged pairs");
+    assert!(compared.builds() >= 20_000);
+    for call in ["build", "ask"] {
+        for number in 1..=8 {
+            for side in 1..=2 {
+                assert!(
+                    compared.met(call, number, side) >= 20,
+                    "{call} {number} {side}"
+                );
+            }
+        }
+        for number in [0, 9, 10] {
+            assert!(compared.met(call, number, 0) >= 20, "{call} {number}");
+        }
+    }
+    assert!(compared.met("build", 11, 0) >= 20);
+    assert!(compared.met("ask", 12, 0) >= 20 && compared.met("ask", 13, 0) >= 20);
+}
+
+/// Every prefix of a good table and every change of a single byte, as the
+/// writer's and as the reader's.
+#[test]
+fn prefixes_and_single_changes() {
+    let mut random = seeded(20261110);
+    let mut compared = Compared::new();
+    let buffer = patterned(64);
+    for _ in 0..12 {
+        let good = small_pair(&mut random);
+        let tables = prefixes(&good.writer).chain(single_changes(&good.writer));
+        for writer in tables {
+            compared.build(
+                &Pair {
+                    writer,
+                    ..good.clone()
+                },
+                &buffer,
+            );
+        }
+        let tables = prefixes(&good.reader).chain(single_changes(&good.reader));
+        for reader in tables {
+            compared.build(
+                &Pair {
+                    reader,
+                    ..good.clone()
+                },
+                &buffer,
+            );
+        }
+    }
+    compared.print("prefixes and single changes");
+}
+
+/// 0 to 255 rows, bounds to the largest, buffers of no, N - 1, N and N + 7
+/// bytes; what stands in the buffer is compared whole.
+#[test]
+fn limit_calls() {
+    let mut compared = Compared::new();
+    for call in limits() {
+        let (_, left) = compared.build(&call.pair, &call.buffer);
+        compared.ask(&call.pair, &left, (0, 0, 0));
+    }
+    compared.print("limits");
+    for (number, side) in [(0, 0), (5, 1), (5, 2), (9, 0), (10, 0)] {
+        assert!(
+            compared.met("build", number, side) > 0,
+            "build {number} side {side}"
+        );
+    }
+}
+
+/// Tables that are longer than a length field can say.
+#[test]
+fn very_long_tables() {
+    let mut compared = Compared::new();
+    let good = Pair {
+        writer: vec![1, 0, 6, 1, 1, 0, 0, 1, 0],
+        reader: vec![1, 0, 6, 2, 1, 0, 0, 1, 0],
+        bound: 0,
+    };
+    for length in [334, 1_284, 65_538, 65_545, 131_081] {
+        let mut pair = good.clone();
+        pair.writer.resize(length, 0);
+        compared.build(&pair, &[7; 4]);
+        let mut pair = good.clone();
+        pair.reader.resize(length, 0);
+        compared.build(&pair, &[7; 4]);
+    }
+    compared.print("very long tables");
+    assert_eq!(
+        compared.met("build", 3, 1) + compared.met("build", 3, 2),
+        10
+    );
+}

@@ -1,0 +1,42 @@
+//! Test inputs for the comparison of the two builders.
+//!
+//! All of them are deterministic from a seed that a test prints, so that a
+//! failure can be met again. Nothing here reads or builds: this crate knows
+//! the layout of a protocol table and nothing else of document 01.
+
+#![forbid(unsafe_code)]
+#![warn(missing_docs)]
+
+pub mod damage;
+pub mod limits;
+pub mod listings;
+pub mod many_rounds;
+pub mod pairs;
+pub mod questions;
+pub mod random;
+pub mod tables;
+
+pub use damage::{damaged_pair, damaged_table, prefixes, single_changes};
+pub use limits::{buffers, limits, patterned, Call};
+pub use listings::listing_input;
+pub use many_rounds::{many_rounds, ManyRounds, MANY_ROUNDS};
+pub use pairs::{chains, clocks, large_pair, long_way, small_pair, Pair};
+pub use questions::{configuration, cycle, kept_bytes, run, Cycle, Run};
+pub use random::Random;
+pub use tables::Parts;
+
+/// Bytes as hex, in pairs with blanks between.
+pub fn hex(bytes: &[u8]) -> String {
+    let pairs: Vec<String> = bytes.iter().map(|byte| format!("{byte:02x}")).collect();
+    pairs.join(" ")
+}
+
+/// A pair as bytes in hex, for the message of a failure.
+pub fn hex_pair(pair: &Pair) -> String {
+    format!(
+        "writer: {}\nreader: {}\nbound: {}",
+        hex(&pair.writer),
+        hex(&pair.reader),
+        pair.bound
+    )
+}

@@ -1,0 +1,94 @@
+//! The listing, as text.
+
+use crate::builder::build;
+use crate::pair::Pair;
+use crate::question::allowed_moves;
+use crate::table::length_field;
+use crate::worked::{A_READER, A_WRITER, C_READER, C_WRITER};
+
+/// The text that the program prints for these bytes of standard input: "The
+/// program reads at most the first 1,024 bytes of standard input and ignores
+/// any after them".
+pub fn listing(input: &[u8]) -> String {
+    let input = &input[..input.len().min(1024)];
+    if input.is_empty() {
+        return worked_listings();
+    }
+    let (writer, reader, bound) = cut(input);
+    pair_listing(writer, reader, bound)
+}
+
+/// "With no input at all it lists the two worked pairs, carried in the
+/// program as constants: pair A at bounds 0, 1, 2, then pair C at 1, 2."
+fn worked_listings() -> String {
+    let of_a = [0, 1, 2].map(|bound| pair_listing(&A_WRITER, &A_READER, bound));
+    let of_c = [1, 2].map(|bound| pair_listing(&C_WRITER, &C_READER, bound));
+    of_a.concat() + &of_c.concat()
+}
+
+/// "writer table, reader table, bound byte": the parts of the input.
+fn cut(input: &[u8]) -> (&[u8], &[u8], u64) {
+    let (writer, rest) = input.split_at(writer_bytes(input));
+    // "the reader gets the rest less the last byte, which is the bound. If
+    // the rest is empty the reader's table is empty." Then there is no bound
+    // byte; none is needed, for the writer's table or else the empty
+    // reader's is refused first.
+    match rest.split_last() {
+        Some((bound, reader)) => (writer, reader, u64::from(*bound)),
+        None => (writer, &[], 0),
+    }
+}
+
+/// "The writer gets 3 + its length field bytes, or all there are if fewer or
+/// if no length field is there".
+fn writer_bytes(input: &[u8]) -> usize {
+    match input {
+        [_, high, low, ..] => input.len().min(3 + length_field(*high, *low)),
+        _ => input.len(),
+    }
+}
+
+/// The lines for one pair at one bound, each ended by one LF.
+pub fn pair_listing(writer: &[u8], reader: &[u8], bound: u64) -> String {
+    let mut buffer = [0; 4096];
+    let built = build(writer, reader, bound, &mut buffer);
+    let pair = match Pair::read(writer, reader, bound) {
+        Ok(pair) if built.number == 0 => pair,
+        // "A refusal prints `refused 11 side 0 row 0` with its numbers."
+        _ => {
+            return format!(
+                "refused {} side {} row {}\n",
+                built.number, built.side, built.row
+            )
+        }
+    };
+    // "First line: kept count, N, rounds, B."
+    let mut text = format!(
+        "converter kept={} of={} rounds={} bound={}\n",
+        built.kept,
+        pair.count(),
+        built.rounds,
+        bound
+    );
+    text += &kept_lines(&pair, &buffer);
+    text
+}
+
+/// "Then a line for each kept configuration in order of place: writer state,
+/// reader state, level, allowed moves x.y in order of bit."
+fn kept_lines(pair: &Pair, kept: &[u8]) -> String {
+    let mut all = pair.configurations();
+    all.sort_by_key(|at| pair.place(*at));
+    let mut text = String::new();
+    for at in all {
+        if kept[pair.place(at)] == 1 {
+            text += &format!("{} {} {} moves", at.writer, at.reader, at.level);
+            // "With no moves the line ends after `moves`."
+            for (x, y) in allowed_moves(pair, kept, at) {
+                text += &format!(" {x}.{y}");
+            }
+            text.push('\n');
+        }
+    }
+    text
+}

@@ -1,0 +1,106 @@
+//! Ask: "which moves are allowed here".
+
+use crate::pair::{Configuration, Pair};
+use crate::table::Refusal;
+
+/// What ask returns: "number, side and row too", and "the allowed moves at a
+/// configuration as a 64-bit set, bit 8x + y, with their count and the lowest
+/// set bit's number (64 if none)".
+#[derive(Clone, Copy, Debug, PartialEq, Eq)]
+pub struct Asked {
+    /// 0 for done, else the refusal's number.
+    pub number: u64,
+    /// The refusal's side.
+    pub side: u64,
+    /// The refusal's row.
+    pub row: u64,
+    /// The allowed moves, bit 8x + y.
+    pub set: u64,
+    /// How many they are.
+    pub count: u64,
+    /// The lowest set bit's number, 64 if none.
+    pub lowest: u64,
+}
+
+impl Asked {
+    /// "with ask's count and lowest in the last two places".
+    pub fn packed(&self) -> u64 {
+        self.number + (self.side << 8) + (self.row << 16) + (self.count << 32) + (self.lowest << 48)
+    }
+
+    /// "A refusal returns set 0, count 0, lowest 64."
+    fn refused(refusal: Refusal) -> Asked {
+        Asked {
+            number: refusal.number,
+            side: refusal.side,
+            row: refusal.row,
+            set: 0,
+            count: 0,
+            lowest: 64,
+        }
+    }
+
+    /// The answer for these allowed moves, in order of bit.
+    fn done(moves: &[(u64, u64)]) -> Asked {
+        let bits: Vec<u64> = moves.iter().map(|(x, y)| 8 * x + y).collect();
+        Asked {
+            number: 0,
+            side: 0,
+            row: 0,
+            set: bits.iter().fold(0, |set, bit| set | (1 << bit)),
+            count: bits.len() as u64,
+            lowest: bits.iter().min().copied().unwrap_or(64),
+        }
+    }
+}
+
+/// Ask, "over the 0/1 bytes the caller lends, built by us or not": refusals
+/// 1 to 10, 12 and 13.
+pub fn ask(
+    writer: &[u8],
+    reader: &[u8],
+    bound: u64,
+    kept: &[u8],
+    writer_state: u64,
+    reader_state: u64,
+    level: u64,
+) -> Asked {
+    let at = Configuration {
+        writer: writer_state,
+        reader: reader_state,
+        level,
+    };
+    match checked(writer, reader, bound, kept) {
+        Err(refusal) => Asked::refused(refusal),
+        // 13: "configuration out of range (ask, step)"
+        Ok(pair) if !pair.in_range(at) => Asked::refused(Refusal::of_call(13)),
+        Ok(pair) => Asked::done(&allowed_moves(&pair, kept, at)),
+    }
+}
+
+/// Refusals 1 to 10 and 12, of ask and step alike.
+pub(crate) fn checked(
+    writer: &[u8],
+    reader: &[u8],
+    bound: u64,
+    kept: &[u8],
+) -> Result<Pair, Refusal> {
+    let pair = Pair::read(writer, reader, bound)?;
+    // 10: "lent buffer under N bytes"
+    if kept.len() < pair.count() {
+        return Err(Refusal::of_call(10));
+    }
+    // 12: "one of the first N bytes is neither 0 nor 1 (ask, step)"
+    if kept[..pair.count()].iter().any(|byte| *byte > 1) {
+        return Err(Refusal::of_call(12));
+    }
+    Ok(pair)
+}
+
+/// The moves x.y allowed at a configuration in range with respect to the kept
+/// bytes, in order of bit.
+pub(crate) fn allowed_moves(pair: &Pair, kept: &[u8], at: Configuration) -> Vec<(u64, u64)> {
+    let in_k = |at: Configuration| kept[pair.place(at)] == 1;
+    let moves = pair.moves().into_iter();
+    moves.filter(|xy| pair.allowed(in_k, at, *xy)).collect()
+}

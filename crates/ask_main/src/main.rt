@@ -2,104 +2,13 @@
 use libc::STDOUT_FILENO;
 use moves::Asked;
 use tables::Verdict;
+use worked::A_KEPT;
+use worked::A_READER;
+use worked::A_WRITER;
+use worked::C_KEPT;
+use worked::C_READER;
+use worked::C_WRITER;
 
-const A_WRITER: [u8; 24] = [
-    1,
-    0,
-    21,
-    1,
-    2,
-    0,
-    1,
-    2,
-    3,
-    0,
-    0,
-    0,
-    0,
-    0,
-    0,
-    1,
-    1,
-    1,
-    1,
-    1,
-    0,
-    0,
-    0,
-    1,
-];
-
-const A_READER: [u8; 24] = [
-    1,
-    0,
-    21,
-    2,
-    2,
-    0,
-    1,
-    2,
-    3,
-    0,
-    0,
-    0,
-    0,
-    0,
-    0,
-    1,
-    1,
-    1,
-    1,
-    1,
-    0,
-    0,
-    0,
-    1,
-];
-
-const C_WRITER: [u8; 34] = [
-    1,
-    0,
-    31,
-    1,
-    3,
-    0,
-    1,
-    2,
-    5,
-    0,
-    0,
-    0,
-    0,
-    0,
-    0,
-    1,
-    1,
-    1,
-    1,
-    0,
-    1,
-    2,
-    1,
-    2,
-    1,
-    0,
-    0,
-    0,
-    1,
-    2,
-    0,
-    3,
-    1,
-    1,
-];
-
-const C_READER: [u8; 19] = [1, 0, 16, 2, 1, 0, 0, 2, 2, 0, 0, 0, 0, 0, 0, 1, 1, 1, 0];
-
-// Cases 2 and 5: the kept bytes of pair A at bound 1 and of pair C at bound 2.
-const A_KEPT: [u8; 8] = [1, 0, 0, 0, 0, 1, 1, 0];
-
-const C_KEPT: [u8; 9] = [1, 1, 1, 1, 1, 1, 1, 1, 0];
 // Every place of pair A at bound 1: a set that is not correct, lent all the same.
 const ALL: [u8; 8] = [1, 1, 1, 1, 1, 1, 1, 1];
 

@@ -2,99 +2,11 @@
 use build::Built;
 use libc::STDOUT_FILENO;
 use tables::Verdict;
+use worked::A_READER;
+use worked::A_WRITER;
+use worked::C_READER;
+use worked::C_WRITER;
 
-const A_WRITER: [u8; 24] = [
-    1,
-    0,
-    21,
-    1,
-    2,
-    0,
-    1,
-    2,
-    3,
-    0,
-    0,
-    0,
-    0,
-    0,
-    0,
-    1,
-    1,
-    1,
-    1,
-    1,
-    0,
-    0,
-    0,
-    1,
-];
-
-const A_READER: [u8; 24] = [
-    1,
-    0,
-    21,
-    2,
-    2,
-    0,
-    1,
-    2,
-    3,
-    0,
-    0,
-    0,
-    0,
-    0,
-    0,
-    1,
-    1,
-    1,
-    1,
-    1,
-    0,
-    0,
-    0,
-    1,
-];
-
-const C_WRITER: [u8; 34] = [
-    1,
-    0,
-    31,
-    1,
-    3,
-    0,
-    1,
-    2,
-    5,
-    0,
-    0,
-    0,
-    0,
-    0,
-    0,
-    1,
-    1,
-    1,
-    1,
-    0,
-    1,
-    2,
-    1,
-    2,
-    1,
-    0,
-    0,
-    0,
-    1,
-    2,
-    0,
-    3,
-    1,
-    1,
-];
-
-const C_READER: [u8; 19] = [1, 0, 16, 2, 1, 0, 0, 2, 2, 0, 0, 0, 0, 0, 0, 1, 1, 1, 0];
 // One state a side, no rows.
 const BARE_WRITER: [u8; 9] = [1, 0, 6, 1, 1, 0, 0, 1, 0];
 

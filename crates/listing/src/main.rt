@@ -1,99 +1,10 @@
 // The listing: document 01, "The listing". It reads, and writes what `pages` gives; with no input it lists the worked pairs.
 use libc::STDIN_FILENO;
 use libc::STDOUT_FILENO;
-
-const A_WRITER: [u8; 24] = [
-    1,
-    0,
-    21,
-    1,
-    2,
-    0,
-    1,
-    2,
-    3,
-    0,
-    0,
-    0,
-    0,
-    0,
-    0,
-    1,
-    1,
-    1,
-    1,
-    1,
-    0,
-    0,
-    0,
-    1,
-];
-
-const A_READER: [u8; 24] = [
-    1,
-    0,
-    21,
-    2,
-    2,
-    0,
-    1,
-    2,
-    3,
-    0,
-    0,
-    0,
-    0,
-    0,
-    0,
-    1,
-    1,
-    1,
-    1,
-    1,
-    0,
-    0,
-    0,
-    1,
-];
-
-const C_WRITER: [u8; 34] = [
-    1,
-    0,
-    31,
-    1,
-    3,
-    0,
-    1,
-    2,
-    5,
-    0,
-    0,
-    0,
-    0,
-    0,
-    0,
-    1,
-    1,
-    1,
-    1,
-    0,
-    1,
-    2,
-    1,
-    2,
-    1,
-    0,
-    0,
-    0,
-    1,
-    2,
-    0,
-    3,
-    1,
-    1,
-];
-
-const C_READER: [u8; 19] = [1, 0, 16, 2, 1, 0, 0, 2, 2, 0, 0, 0, 0, 0, 0, 1, 1, 1, 0];
+use worked::A_READER;
+use worked::A_WRITER;
+use worked::C_READER;
+use worked::C_WRITER;
 
 // Builds into the lent bytes, and prints the first line or the refusal.
 fn list_head(writer: &[u8], reader: &[u8], bound: u64, kept: &mut [u8]) {

@@ -51,7 +51,8 @@ bare-reader = 1 ∷ 0 ∷ 6 ∷ 2 ∷ 1 ∷ 0 ∷ 0 ∷ 1 ∷ 0 ∷ []
 -- ---- what a case claims
 
 pub data Claim : Type 0 where
-  -- build gives this number, 0 or 11, and these rounds, and the largest K is these places
+  -- the pair is accepted (0) or has no converter (11), by whether the start is in the largest K; its rounds; the places of the largest K.
+  -- What build returns and leaves in the buffer then follows: it is fixed by these (`BuildSays`)
   built : ℕ → ℕ → List ℕ → Claim
   -- ask gives this set at the configuration
   asked : Conf → ℕ → Claim

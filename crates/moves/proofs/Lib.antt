@@ -1,6 +1,7 @@
 pub mod Filling
 pub mod Signed
 pub mod Products
+pub mod Bases
 pub mod Tests
 pub mod StateRows
 pub mod Allowed

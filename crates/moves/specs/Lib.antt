@@ -1,4 +1,5 @@
 pub mod Columns
+pub mod Frames
 pub mod Outcomes
 pub mod Calls
 pub mod Ask

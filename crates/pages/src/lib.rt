@@ -14,6 +14,7 @@ use lines::first_line;
 use lines::refusal_line;
 use moves::ask;
 use moves::calls::enter;
+use moves::places::Frame;
 use moves::places::places;
 use tables::Verdict;
 
@@ -25,7 +26,12 @@ fn all_places(writer: &[u8], reader: &[u8], bound: u64) -> u64
     let e = enter(writer, reader, bound);
     let w = e.writer;
     let r = e.reader;
-    places(w.states, r.states, bound as u8) as u64
+    let f = Frame {
+        n1: w.states,
+        n2: r.states,
+        top: bound as u8,
+    };
+    places(f, w.states) as u64
 }
 
 // Builds into the lent bytes, and writes the first line of the listing, or the line of a refusal.

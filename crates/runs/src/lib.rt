@@ -19,6 +19,7 @@ use items::moved;
 use moves::calls::enter;
 use moves::calls::refuse;
 use moves::outcomes::landed;
+use moves::places::Conf;
 use tables::Row;
 use tables::Table;
 use tables::Verdict;
@@ -132,17 +133,12 @@ fn go(kept: &[u8], w: Table, r: Table, top: u8, run: Run, cycle: Cycle) -> Stepp
 {
     let x = cycle.writer_letter;
     let y = cycle.reader_letter;
-    if !is_allowed(
-        kept,
-        w,
-        r,
-        top,
-        run.writer as u8,
-        run.reader as u8,
-        run.level as u8,
-        x as u8,
-        y as u8,
-    ) {
+    let c = Conf {
+        writer: run.writer as u8,
+        reader: run.reader as u8,
+        level: run.level as u8,
+    };
+    if !is_allowed(kept, w, r, top, c, x as u8, y as u8) {
         return refused(refuse(15), run);
     }
     let a = row_of(w, run.writer, x, cycle.writer_answer);

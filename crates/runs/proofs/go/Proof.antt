@@ -20,8 +20,8 @@ cast-is-allowed-3 c = search needs
 cast-is-allowed-4 : tie.Need-cast-is-allowed-4
 cast-is-allowed-4 c = search needs
 
-cast-is-allowed-5 : tie.Need-cast-is-allowed-5
-cast-is-allowed-5 c = search needs
+cast-if2 : tie.Need-cast-if2
+cast-if2 c = search needs
 
 is-allowed-requires : tie.Need-is-allowed-requires
 is-allowed-requires c κs = search needs
@@ -38,8 +38,8 @@ returns c = c .refused .ensures ∙ rw (c .before .refuse .ensures) (move-refuse
 row-of-requires : tie.Need-row-of-requires
 row-of-requires c κs = search needs
 
-cast-if2 : tie.Need-cast-if2
-cast-if2 c = search needs
+cast-if2-2 : tie.Need-cast-if2-2
+cast-if2-2 c = search needs
 
 refuse-side-requires : tie.Need-refuse-side-requires
 refuse-side-requires c κs = search needs
@@ -88,16 +88,16 @@ go-spec =
     tie.close
     (tie.spec
     cast-is-allowed
+    cast-if2
     cast-is-allowed-2
     cast-is-allowed-3
     cast-is-allowed-4
-    cast-is-allowed-5
     is-allowed-requires
     refuse-requires
     refused-requires
     returns
     row-of-requires
-    cast-if2
+    cast-if2-2
     refuse-side-requires
     refused-requires-2
     returns-2

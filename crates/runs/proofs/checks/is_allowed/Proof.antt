@@ -3,7 +3,6 @@ use native.Mathlib.Omega.{arith}
 use mathlib.Core.Path.{sym, ap, _∙_}
 use Rattle.tables.specs.Format.{byte}
 use Rattle.rules.specs.Configurations.{place}
-use Rattle.moves.proofs.StateRows.{part-in}
 use Rattle.moves.proofs.Asking.{place-lent, sides-of, test-same}
 use Rattle.runs.proofs.Moving.{not-kept}
 use borrow.Author.Needs.{needs}
@@ -27,38 +26,18 @@ columns-requires c κs = search needs
 columns-requires-2 : tie.Need-columns-requires-2
 columns-requires-2 c κs = search needs
 
-first-at-requires : tie.Need-first-at-requires
-first-at-requires c κs = search needs
-
-add-first-at : tie.Need-add-first-at
-add-first-at c = search needs
-
-first-at-requires-2 : tie.Need-first-at-requires-2
-first-at-requires-2 c κs = search needs
-
-first-at-requires-3 : tie.Need-first-at-requires-3
-first-at-requires-3 c κs = search needs
-
-add-first-at-2 : tie.Need-add-first-at-2
-add-first-at-2 c = search needs
-
-first-at-requires-4 : tie.Need-first-at-requires-4
-first-at-requires-4 c κs = search needs
+spot-at-requires : tie.Need-spot-at-requires
+spot-at-requires c κs = let a = c .before .before .before .before .before .before .before .before .pre in (omega (arith, a .within .writer-in, a .good .writer .states), omega (arith, a .within .reader-in, a .good .reader .states))
 
 allows-requires : tie.Need-allows-requires
-allows-requires c κs =
-    let a = c .before .before .before .before .before .before .before .before .before .before .before .before .before .before .before .before .pre in (
-      sides-of _ (a .good) _ _ _ (c .before .before .before .before .before .before .before .before .before .before .before .columns .ensures) (c .before .before .before .before .before .before .before .before .before .before .columns2 .ensures) (a .few) (a .room) _ (omega (arith, a .within .level-in)),
-      omega (arith, c .before .before .before .before .before .before .first-at2 .ensures, part-in _ (a .good .writer) _ (c .before .before .before .before .before .before .before .before .before .before .before .columns .ensures) _ 0 (a .within .writer-in), a .good .writer .count),
-      omega (arith, c .before .before .first-at4 .ensures, part-in _ (a .good .reader) _ (c .before .before .before .before .before .before .before .before .before .before .columns2 .ensures) _ 0 (a .within .reader-in), a .good .reader .count),
-    )
+allows-requires c κs = let a = c .before .before .before .before .before .before .before .before .before .before .before .pre in rw (c .before .before .spot-at .ensures) (sides-of _ (a .good) _ _ _ (c .before .before .before .before .before .before .columns .ensures) (c .before .before .before .before .before .columns2 .ensures) (a .few) (a .room) _ (a .within))
 
 returns-2 : tie.Need-returns-2
 unfolding place
 returns-2 c =
     c .allows .ensures
-    ∙ rw (c .before .before .before .before .before .before .before .before .before .first-at .ensures, c .before .before .before .before .before .before .before .first-at2 .ensures, c .before .before .before .before .before .first-at3 .ensures, c .before .before .before .first-at4 .ensures)
-    (test-same _ _ _ (c .before .before .before .before .before .before .before .before .before .before .before .before .before .before .before .before .before .pre) _ _ (c .before .before .before .before .before .before .before .before .before .before .before .before .columns .ensures) (c .before .before .before .before .before .before .before .before .before .before .before .columns2 .ensures) (λ e. c .before .before .before .before .before .before .before .before .before .before .before .before .before .if1 .left (ap (byte (c .before .before .before .before .before .before .before .before .before .before .before .before .before .before .before .before .before .args .k .now)) (c .before .before .before .before .before .before .before .before .before .before .before .before .before .before .before .place .ensures) ∙ e)) _ _)
+    ∙ rw (c .before .before .before .spot-at .ensures)
+    (test-same _ _ _ (c .before .before .before .before .before .before .before .before .before .before .before .before .pre) _ _ (c .before .before .before .before .before .before .before .columns .ensures) (c .before .before .before .before .before .before .columns2 .ensures) (λ e. c .before .before .before .before .before .before .before .before .if1 .left (ap (byte (c .before .before .before .before .before .before .before .before .before .before .before .before .args .k .now)) (c .before .before .before .before .before .before .before .before .before .before .place .ensures) ∙ e)) _ _)
 
 pub is-allowed-spec : {M : Type 1} → statement M
 is-allowed-spec =
@@ -69,11 +48,6 @@ is-allowed-spec =
     returns
     columns-requires
     columns-requires-2
-    first-at-requires
-    add-first-at
-    first-at-requires-2
-    first-at-requires-3
-    add-first-at-2
-    first-at-requires-4
+    spot-at-requires
     allows-requires
     returns-2)

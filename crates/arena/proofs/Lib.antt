@@ -4,4 +4,3 @@ pub mod Loop
 pub mod Steps
 pub mod Marks
 pub mod Rounds
-pub mod Number

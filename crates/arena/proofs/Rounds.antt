@@ -1,4 +1,5 @@
--- The executable builder solves: its list is the largest correct set, its rounds are the number of the definition, from 1 to the number of places; and there is one such answer.
+-- The executable builder solves: its list is the largest correct set, its rounds are the number of the definition,
+-- from 1 to the number of places.
 -- Assumes that the finish is a place.
 use mathlib.Core.Path.{_≡_, refl, sym, _∙_, subst}
 use mathlib.Core.Logic.{_↔_}
@@ -9,10 +10,10 @@ use native.Mathlib.Omega.{arith}
 use lib.Dec.{T, eqb, eqb→eq, eqb-refl}
 use lib.ListN.{length, replicate, length-replicate, getD-replicate}
 use Rattle.lists.specs.Lists.{count, In}
-use Rattle.lists.proofs.Count.{in-length, count-length, count-positive, Sub, count-sub, same-of-count, same-of-members}
+use Rattle.lists.proofs.Count.{in-length, count-length, count-positive, Sub, count-sub, same-of-count}
 use Rattle.arena.specs.Arena.{Arena, Largest, Stage, Still, Rounds}
 use Rattle.arena.specs.Builder.{round, Built, lastRound, oneMore, rest, build}
-use Rattle.arena.proofs.Sets.{finish-stays, largest-same, rounds-largest, largest-unique, rounds-unique}
+use Rattle.arena.proofs.Sets.{finish-stays, largest-same, rounds-largest}
 use Rattle.arena.proofs.Marks.{round-exact, round-length}
 use Rattle.arena.proofs.Loop.{NotYet, first-not-yet, not-last, round-next}
 
@@ -128,15 +129,3 @@ module _ (A : Arena) where
         positive = h .positive;
         few = h .few;
       }
-
-  -- ---- the answer is one
-
-  solved-kept : (a b : Built) → Solved a → Solved b → a .kept ≡ b .kept
-  solved-kept a b s t =
-      same-of-members (a .kept) (b .kept) (s .long ∙ sym (t .long)) (largest-unique A (In (a .kept)) (In (b .kept)) (s .largest) (t .largest))
-
-  pub solved-unique : (a b : Built) → Solved a → Solved b → a ≡ b
-  solved-unique a b s t = λ i. record {
-    kept = solved-kept a b s t i;
-    rounds = rounds-unique A (a .rounds) (b .rounds) (s .rounds-are) (t .rounds-are) i;
-  }

@@ -2,26 +2,21 @@
 // Document 01, "The calls and what they return".
 ghost use mathlib.Core.Path.{_≡_};
 ghost use Prim.Native.Nat.{_<_, _^_};
-ghost use Rattle.moves.specs.Ask.{askOf};
-ghost use Rattle.moves.specs.Asks.{confWith};
-ghost use Rattle.bridge.specs.Packed.{packed, packedWith, packedAsked, PackedBuild};
+ghost use Rattle.rules.specs.Configurations.{confWith};
+ghost use Rattle.calls.specs.Call.{callOf};
+ghost use Rattle.calls.specs.Ask.{askOf};
+ghost use Rattle.calls.specs.Packed.{packed, packedWith, packedAsked, PackedBuild};
+use ask::ask;
 use build::build;
-use moves::ask;
-use tables::Verdict;
+use format::Verdict;
 
-fn wide(x: u8) -> u64
-    ensures { λ z. ⌜ z ≡ x ⌝ }
-{
-    x as u64
-}
-
-fn pack(number: u8, side: u8, row: u8, fourth: u64, fifth: u64) -> u64
+fn pack(number: u8, side: u8, row: u16, fourth: u64, fifth: u64) -> u64
     requires { ⌜ (fourth < 2 ^ 16) × (fifth < 2 ^ 16) ⌝ }
     ensures { λ z. ⌜ z ≡ packed number side row fourth fifth ⌝ }
 {
-    wide(number)
-        + 0x100 * wide(side)
-        + 0x1_0000 * wide(row)
+    (number as u64)
+        + 0x100 * (side as u64)
+        + 0x1_0000 * (row as u64)
         + 0x1_0000_0000 * fourth
         + 0x1_0000_0000_0000 * fifth
 }
@@ -38,7 +33,7 @@ fn pack_verdict(verdict: Verdict, fourth: u64, fifth: u64) -> u64
 
 #[no_mangle]
 pub extern "C" fn bridge_build(writer: &[u8], reader: &[u8], bound: u64, buffer: &mut [u8]) -> u64
-    ensures { λ z. ⌜ PackedBuild (now (writer .entry)) (now (reader .entry)) bound (now (buffer .entry)) (now (buffer .exit)) z ⌝ }
+    ensures { λ z. ⌜ PackedBuild (callOf (now (writer .entry)) (now (reader .entry)) bound) (now (buffer .entry)) (now (buffer .exit)) z ⌝ }
 {
     let b = build(writer, reader, bound, buffer);
     let v = b.verdict;
@@ -55,7 +50,7 @@ pub extern "C" fn bridge_ask(
     reader_state: u64,
     level: u64,
 ) -> u64
-    ensures { λ z. ⌜ z ≡ packedAsked (askOf (now (writer .entry)) (now (reader .entry)) bound (now (kept .entry)) (confWith «writer_state» «reader_state» level)) ⌝ }
+    ensures { λ z. ⌜ z ≡ packedAsked (askOf (callOf (now (writer .entry)) (now (reader .entry)) bound) (now (kept .entry)) (confWith «writer_state» «reader_state» level)) ⌝ }
 {
     let a = ask(
         writer,
@@ -80,9 +75,9 @@ pub extern "C" fn bridge_ask_set(
     reader_state: u64,
     level: u64,
 ) -> u64
-    ensures { λ z. ⌜ z ≡ askOf (now (writer .entry)) (now (reader .entry)) bound (now (kept .entry)) (confWith «writer_state» «reader_state» level) .set ⌝ }
+    ensures { λ z. ⌜ z ≡ askOf (callOf (now (writer .entry)) (now (reader .entry)) bound) (now (kept .entry)) (confWith «writer_state» «reader_state» level) .set ⌝ }
 {
-    let a = ask(
+    ask(
         writer,
         reader,
         bound,
@@ -90,6 +85,5 @@ pub extern "C" fn bridge_ask_set(
         writer_state,
         reader_state,
         level,
-    );
-    a.set
+    ).set
 }

@@ -1,4 +1,1 @@
-pub mod Hits
-pub mod Sweeps
 pub mod Rounds
-pub mod Build

@@ -1,23 +1,29 @@
 -- Document 01, "Pairs at their limits": the ten cases, one table. Tables are bytes, read by the definition of the reader. Assumes nothing.
-use Prim.Native.Nat.{ℕ}
+use Prim.Native.Nat.{ℕ, zero, suc, _≤_}
 use mathlib.Core.Path.{_≡_}
 use mathlib.Core.Logic.{_⊎_}
-use mathlib.Core.Bool.{Bool}
-use mathlib.Core.List.{List, [], _∷_}
+use mathlib.Core.List.{List, [], _∷_, _++_}
 use lib.Dec.{eqb}
-use lib.ListN.{length}
+use lib.ListN.{length, drop, replicate}
 use Rattle.lists.specs.Lists.{any, tabFrom, tab}
-use Rattle.arena.specs.Builder.{digit}
-use Rattle.tables.specs.declared.Verdict.the-variants.{Fine, Refused}
-use Rattle.rules.specs.Configurations.{Pair, GoodPair, Conf, start, finish, size}
+use Rattle.lists.specs.Bits.{bit}
+use Rattle.format.specs.declared.Verdict.the-variants.{Fine, Refused}
+use Rattle.rules.specs.declared.Conf.{Conf}
+use Rattle.rules.specs.declared.Pair.{Pair}
+use Rattle.rules.specs.Configurations.{GoodPair, start, size, confWith}
 use Rattle.rules.specs.Sets.{RoundsAre}
 use Rattle.rules.specs.Kept.{KeptAt, IsKept}
-use Rattle.moves.specs.Calls.{pairOf}
-use Rattle.moves.specs.Ask.{answered, askOf}
-use Rattle.runs.specs.declared.Cycle.{Cycle}
-use Rattle.runs.specs.Runs.{runAt}
-use Rattle.runs.specs.Begin.{beginOf}
-use Rattle.runs.specs.Walks.{Walked, walk}
+use Rattle.calls.specs.Call.{Call, callOf, pairOf}
+use Rattle.calls.specs.Ask.{answered, askOf}
+use Rattle.calls.specs.declared.Built.{Built}
+use Rattle.calls.specs.declared.Run.{Run}
+use Rattle.calls.specs.declared.Cycle.{Cycle}
+use Rattle.calls.specs.declared.Stepped.{Stepped}
+use Rattle.calls.specs.Build.{BuildSays}
+use Rattle.calls.specs.Step.{stepOf}
+use Rattle.calls.specs.Runs.{runAt}
+use Rattle.calls.specs.Begin.{beginOf}
+use Rattle.calls.specs.Walks.{Walked, walk}
 
 -- ---- the tables
 
@@ -51,26 +57,24 @@ bare-reader = 1 ∷ 0 ∷ 6 ∷ 2 ∷ 1 ∷ 0 ∷ 0 ∷ 1 ∷ 0 ∷ []
 -- ---- what a case claims
 
 pub data Claim : Type 0 where
-  -- the pair is accepted (0) or has no converter (11), by whether the start is in the largest K; its rounds; the places of the largest K.
-  -- What build returns and leaves in the buffer then follows: it is fixed by these (`BuildSays`)
-  built : ℕ → ℕ → List ℕ → Claim
-  -- ask gives this set at the configuration
+  -- the number, 0 or 11; the rounds; N; the places of the largest K
+  built : ℕ → ℕ → ℕ → List ℕ → Claim
+  -- ask's set at the configuration
   asked : Conf → ℕ → Claim
-  -- the cycles, from the start, are all done and end in this configuration with nothing held, with these items accepted and these delivered
-  ran : List Cycle → Conf → List ℕ → List ℕ → Claim
+  -- the cycles, whatever the number is that no row takes up; item and mark of each step; where the run ends, with nothing held; the items
+  -- accepted and delivered
+  ran : (ℕ → List Cycle) → List (ℕ × ℕ) → Conf → List ℕ → List ℕ → Claim
 
 pub record Case : Type 0 where
-  pub writer : List ℕ
-  pub reader : List ℕ
-  pub bound : ℕ
+  pub call : Call
   pub claims : List Claim
 
 abbrev pub pairIn : Case → Pair
-pairIn c = pairOf (c .writer) (c .reader) (c .bound)
+pairIn c = pairOf (c .call)
 
 -- N bytes, 1 at the places listed
 abbrev pub isListed : List ℕ → ℕ → ℕ
-isListed places p = digit (any (eqb p) places)
+isListed places p = bit (any (eqb p) places)
 
 unfoldable pub marks : ℕ → List ℕ → List ℕ
 unfolding tabFrom
@@ -78,60 +82,84 @@ marks n places = tab (isListed places) n
 
 -- ---- what the claim means, in the rules' own terms
 
-pub record BuiltSays (X : Pair) (number rounds : ℕ) (places : List ℕ) : Type 1 where
+pub record BuiltSays (X : Pair) (number rounds n : ℕ) (places : List ℕ) : Type 1 where
   pub good : GoodPair X
-  pub kept : IsKept X (marks (size X) places)
+  pub size-is : size X ≡ n
+  pub kept : IsKept X (marks n places)
   pub are-rounds : RoundsAre X rounds
-  pub verdict : ((number ≡ 0) × KeptAt X (marks (size X) places) (start X)) ⊎ ((number ≡ 11) × (¬ KeptAt X (marks (size X) places) (start X)))
+  pub verdict : ((number ≡ 0) × KeptAt X (marks n places) (start X)) ⊎ ((number ≡ 11) × (¬ KeptAt X (marks n places) (start X)))
+
+-- ---- and of the calls: any result that satisfies a call's contract
+
+-- 0 is done, with the kept places in the buffer; 11 has none, and zero bytes
+abbrev pub resultOf : ℕ → ℕ → List ℕ → Built
+resultOf zero rounds places = record { verdict = Fine; kept = length places; rounds = rounds }
+resultOf (suc number) rounds places = record { verdict = Refused (suc number) 0 0; kept = 0; rounds = rounds }
+
+abbrev pub bytesOf : ℕ → ℕ → List ℕ → List ℕ
+bytesOf zero n places = marks n places
+bytesOf (suc number) n places = replicate n 0
+
+pub record BuildGives (k : Call) (number rounds n : ℕ) (places : List ℕ) (before after : List ℕ) (b : Built) : Type 0 where
+  pub result : b ≡ resultOf number rounds places
+  pub bytes : after ≡ bytesOf number n places ++ drop n before
+
+-- item and mark of each step of a walk
+unfoldable pub returned : Call → List ℕ → List Cycle → Run → List (ℕ × ℕ)
+unfolding stepOf
+returned k bytes [] u = []
+returned k bytes (c ∷ cs) u =
+    let s : Stepped = stepOf k bytes u c in
+    (s .item, s .mark) ∷ returned k bytes cs (s .run)
 
 abbrev pub ended : List Cycle → Conf → List ℕ → List ℕ → Walked
 ended cs c accepted delivered = record { verdict = Fine; run = runAt c []; cycles = length cs; accepted = accepted; delivered = delivered }
 
 abbrev pub Says : Case → Claim → Type 1
-Says k (built number rounds places) = BuiltSays (pairIn k) number rounds places
-Says k (asked c set) = (bytes : List ℕ) → IsKept (pairIn k) bytes → askOf (k .writer) (k .reader) (k .bound) bytes c ≡ answered set
-Says k (ran cs c accepted delivered) =
-    (bytes : List ℕ) → IsKept (pairIn k) bytes
-    → walk (k .writer) (k .reader) (k .bound) bytes cs (beginOf (k .writer) (k .reader) (k .bound) .run) ≡ ended cs c accepted delivered
+Says k (built number rounds n places) =
+    BuiltSays (pairIn k) number rounds n places
+    × ((before after : List ℕ) (b : Built) → n ≤ length before → BuildSays (k .call) before after b → BuildGives (k .call) number rounds n places before after b)
+Says k (asked c set) = (bytes : List ℕ) → IsKept (pairIn k) bytes → askOf (k .call) bytes c ≡ answered set
+Says k (ran cs outs c accepted delivered) =
+    (bytes : List ℕ) (number : ℕ) → IsKept (pairIn k) bytes
+    → (walk (k .call) bytes (cs number) (beginOf (k .call) .run) ≡ ended (cs number) c accepted delivered)
+    × (returned (k .call) bytes (cs number) (beginOf (k .call) .run) ≡ outs)
 
 -- ---- the table
-
-abbrev at : ℕ → ℕ → ℕ → Conf
-at writer reader level = record { writer-state = writer; reader-state = reader; level = level }
 
 abbrev cycle : ℕ → ℕ → ℕ → ℕ → ℕ → Cycle
 cycle x y a b incoming =
     record { «writer_letter» = x; «reader_letter» = y; «writer_answer» = a; «reader_answer» = b; incoming = incoming }
 
 abbrev A : ℕ → List Claim → Case
-A bound claims = record { writer = A-writer; reader = A-reader; bound = bound; claims = claims }
+A bound claims = record { call = callOf A-writer A-reader bound; claims = claims }
 
 abbrev C : ℕ → List Claim → Case
-C bound claims = record { writer = C-writer; reader = C-reader; bound = bound; claims = claims }
+C bound claims = record { call = callOf C-writer C-reader bound; claims = claims }
 
 abbrev bare : ℕ → List Claim → Case
-bare bound claims = record { writer = bare-writer; reader = bare-reader; bound = bound; claims = claims }
+bare bound claims = record { call = callOf bare-writer bare-reader bound; claims = claims }
 
 abbrev pub cases : List Case
 cases =
     -- 1
-    A 0 (built 11 2 (3 ∷ []) ∷ [])
+    A 0 (built 11 2 4 (3 ∷ []) ∷ [])
     -- 2
-    ∷ A 1 (built 0 2 (0 ∷ 5 ∷ 6 ∷ []) ∷ [])
+    ∷ A 1 (built 0 2 8 (0 ∷ 5 ∷ 6 ∷ []) ∷ [])
     -- 3
-    ∷ A 2 (built 0 2 (0 ∷ 7 ∷ 9 ∷ []) ∷ [])
+    ∷ A 2 (built 0 2 12 (0 ∷ 7 ∷ 9 ∷ []) ∷ [])
     -- 4
-    ∷ C 1 (built 11 3 (2 ∷ 3 ∷ 4 ∷ []) ∷ [])
+    ∷ C 1 (built 11 3 6 (2 ∷ 3 ∷ 4 ∷ []) ∷ [])
     -- 5
-    ∷ C 2 (built 0 2 (0 ∷ 1 ∷ 2 ∷ 3 ∷ 4 ∷ 5 ∷ 6 ∷ 7 ∷ []) ∷ [])
+    ∷ C 2 (built 0 2 9 (0 ∷ 1 ∷ 2 ∷ 3 ∷ 4 ∷ 5 ∷ 6 ∷ 7 ∷ []) ∷ [])
     -- 6
-    ∷ bare 0 (built 0 1 (0 ∷ []) ∷ asked (at 0 0 0) 0 ∷ [])
+    ∷ bare 0 (built 0 1 1 (0 ∷ []) ∷ asked (confWith 0 0 0) 0 ∷ [])
     -- 7
-    ∷ bare 15 (built 0 2 (0 ∷ []) ∷ [])
+    ∷ bare 15 (built 0 2 16 (0 ∷ []) ∷ [])
     -- 8
-    ∷ A 1 (asked (at 0 0 0) 257 ∷ asked (at 1 0 1) 3 ∷ asked (at 1 1 0) 1 ∷ [])
+    ∷ A 1 (asked (confWith 0 0 0) 257 ∷ asked (confWith 1 0 1) 3 ∷ asked (confWith 1 1 0) 1 ∷ [])
     -- 9
-    ∷ C 2 (asked (at 0 0 1) 515 ∷ [])
+    ∷ C 2 (asked (confWith 0 0 1) 515 ∷ [])
     -- 10
-    ∷ A 1 (ran (cycle 1 0 1 0 7 ∷ cycle 0 1 0 1 0 ∷ []) (at 1 1 0) (7 ∷ []) (7 ∷ []) ∷ [])
+    ∷ A 1 (ran (λ any. cycle 1 0 1 0 7 ∷ cycle 0 1 0 1 any ∷ []) ((0, 0) ∷ (7, 1) ∷ []) (confWith 1 1 0) (7 ∷ []) (7 ∷ []) ∷ [])
     ∷ []

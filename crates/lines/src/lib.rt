@@ -1,70 +1,18 @@
-// The text of the listing, line by line into a lent buffer, and the cut of the program's input. Numbers in, bytes out:
-// nothing here knows of tables, sets of configurations or the builder.
+// The lines of the listing, each into a lent buffer, and the cut of the program's input. Numbers in, bytes out: nothing
+// here knows of tables, sets of configurations or the builder.
 ghost use Prim.Native.Nat.{_+_, _≤_, _<_};
 ghost use mathlib.Core.Path.{_≡_};
-ghost use mathlib.Core.List.{[], _∷_};
 ghost use lib.ListN.{length};
-ghost use Rattle.lines.specs.Text.{decimal, field, lineEnd, moveText, bitText, movesBelow, firstLine, confLine, refusalLine};
-ghost use Rattle.lines.specs.Written.{Put, Written};
-ghost use Rattle.lines.specs.Cut.{writerBytes, cutOf};
-
-// The writer's table is the bytes below `writer`, the reader's those from `writer` to below `reader`.
-pub struct Cut {
-    pub writer: usize,
-    pub reader: usize,
-    pub bound: u64,
-}
-
-fn digit(d: u64) -> u8
-    requires { ⌜ d < 10 ⌝ }
-    ensures { λ r. ⌜ r ≡ 48 + d ⌝ }
-{
-    48 + d as u8
-}
-
-// Each put stores a piece from a place of the buffer on, and answers the place behind it. The buffer is a slice here:
-// lending the array as a slice is what tells its length.
-fn put_byte(out: &mut [u8], at: usize, b: u8) -> usize
-    requires { ⌜ at < length (now out) ⌝ }
-    ensures { λ r. ⌜ Put (b ∷ []) at (now (out .entry)) r (now (out .exit)) ⌝ }
-{
-    out[at] = b;
-    at + 1
-}
-
-fn put(out: &mut [u8], at: usize, piece: &[u8]) -> usize
-    requires { ⌜ at + length (now piece) ≤ length (now out) ⌝ }
-    ensures { λ r. ⌜ Put (now (piece .entry)) at (now (out .entry)) r (now (out .exit)) ⌝ }
-{
-    let mut i = 0;
-    while i < piece.len() {
-        out[at + i] = piece[i];
-        i += 1;
-    }
-    at + i
-}
-
-// The digits of n / 10, and then the last: at most 20 calls deep.
-fn put_number(out: &mut [u8], at: usize, n: u64) -> usize
-    requires { ⌜ at + length (decimal n) ≤ length (now out) ⌝ }
-    ensures { λ r. ⌜ Put (decimal n) at (now (out .entry)) r (now (out .exit)) ⌝ }
-{
-    if n < 10 {
-        return put_byte(out, at, digit(n));
-    }
-    let last = put_number(out, at, n / 10);
-    put_byte(out, last, digit(n % 10))
-}
-
-// A word and a number behind it; no u64 has more than 20 digits.
-fn put_field(out: &mut [u8], at: usize, word: &[u8], n: u64) -> usize
-    requires { ⌜ at + length (now word) + 20 ≤ length (now out) ⌝ }
-    ensures { λ r. ⌜ Put (field (now (word .entry)) n) at (now (out .entry)) r (now (out .exit)) ⌝ }
-    ensures { λ r. ⌜ r ≤ at + length (now (word .entry)) + 20 ⌝ }
-{
-    let number = put(out, at, word);
-    put_number(out, number, n)
-}
+ghost use Rattle.texts.specs.Text.{moveText, bitText, movesBelow, firstLine, confLine, refusalLine};
+ghost use Rattle.texts.specs.Written.{Written};
+ghost use Rattle.texts.specs.Cut.{writerBytes, cutOf};
+ghost use Rattle.put.specs.Piece.{Put};
+use put::digit;
+use put::end_line;
+use put::put;
+use put::put_field;
+use texts::Cut;
+use widths::wide;
 
 // The move of bit m = 8x + y.
 fn put_move(out: &mut [u8], at: usize, m: u64) -> usize
@@ -100,13 +48,6 @@ fn put_moves(out: &mut [u8], at: usize, set: u64) -> usize
         m += 1;
     }
     next
-}
-
-fn end_line(out: &mut [u8], at: usize) -> usize
-    requires { ⌜ at < length (now out) ⌝ }
-    ensures { λ r. ⌜ Put lineEnd at (now (out .entry)) r (now (out .exit)) ⌝ }
-{
-    put(out, at, b"\n")
 }
 
 // Each of the three lines is written at the start of the buffer, which has room for it at any numbers; the answer is its
@@ -145,12 +86,6 @@ pub fn refusal_line(out: &mut [u8; 512], number: u64, side: u64, row: u64) -> us
     let third = put_field(out, second, b" side ", side);
     let end = put_field(out, third, b" row ", row);
     end_line(out, end)
-}
-
-fn wide(x: u8) -> usize
-    ensures { λ r. ⌜ (r ≡ x) × (r < 256) ⌝ }
-{
-    x as usize
 }
 
 // How many bytes the writer's table gets.

@@ -1,8 +1,10 @@
 // The listing: document 01, "The listing". It reads, and writes what `pages` gives; with no input it lists the worked pairs.
 use libc::STDIN_FILENO;
 use libc::STDOUT_FILENO;
+use worked::A_BOUNDS;
 use worked::A_READER;
 use worked::A_WRITER;
+use worked::C_BOUNDS;
 use worked::C_READER;
 use worked::C_WRITER;
 
@@ -41,12 +43,17 @@ fn list_input(input: &[u8]) {
     list(&input[..first], &input[first..last], cut.bound);
 }
 
+fn list_at(writer: &[u8], reader: &[u8], bounds: &[u64]) {
+    let mut i = 0;
+    while i < bounds.len() {
+        list(writer, reader, bounds[i]);
+        i += 1;
+    }
+}
+
 fn list_worked() {
-    list(&A_WRITER, &A_READER, 0);
-    list(&A_WRITER, &A_READER, 1);
-    list(&A_WRITER, &A_READER, 2);
-    list(&C_WRITER, &C_READER, 1);
-    list(&C_WRITER, &C_READER, 2);
+    list_at(&A_WRITER, &A_READER, &A_BOUNDS);
+    list_at(&C_WRITER, &C_READER, &C_BOUNDS);
 }
 
 fn main() {

@@ -2,41 +2,37 @@
 // A program can only be proved to be safe, not to print the right bytes, so whatever decides the bytes is here.
 ghost use mathlib.Core.Path.{_≡_};
 ghost use Prim.Native.Nat.{_≤_, _<_};
-ghost use Rattle.tables.specs.Verdicts.{verdictOf};
-ghost use Rattle.tables.specs.declared.Verdict.the-variants.{Fine};
+ghost use Rattle.format.specs.Verdicts.{verdictOf};
+ghost use Rattle.format.specs.declared.Verdict.the-variants.{Fine};
 ghost use Rattle.rules.specs.Configurations.{size};
-ghost use Rattle.moves.specs.Calls.{pairOf, enterChecks};
-ghost use Rattle.lines.specs.Written.{Written};
-ghost use Rattle.pages.specs.Pages.{HeadSays, placeText, spotAt, spotText};
+ghost use Rattle.calls.specs.Call.{callOf, pairOf};
+ghost use Rattle.calls.specs.Refusals.{enterChecks};
+ghost use Rattle.texts.specs.Written.{Written};
+ghost use Rattle.listings.specs.Pages.{HeadSays, textAt, placeText};
+use ask::ask;
 use build::build;
+use entry::enter;
+use format::Verdict;
 use lines::conf_line;
 use lines::first_line;
 use lines::refusal_line;
-use moves::ask;
-use moves::calls::enter;
-use moves::places::Frame;
-use moves::places::places;
-use tables::Verdict;
+use numbers::places::frame_of;
+use numbers::places::places;
 
 // N, of a pair that 1 to 9 do not refuse.
 fn all_places(writer: &[u8], reader: &[u8], bound: u64) -> u64
-    requires { ⌜ verdictOf (enterChecks (now writer) (now reader) bound) ≡ Fine ⌝ }
-    ensures { λ r. ⌜ r ≡ size (pairOf (now (writer .entry)) (now (reader .entry)) bound) ⌝ }
+    requires { ⌜ verdictOf (enterChecks (callOf (now writer) (now reader) bound)) ≡ Fine ⌝ }
+    ensures { λ r. ⌜ r ≡ size (pairOf (callOf (now (writer .entry)) (now (reader .entry)) bound)) ⌝ }
 {
     let e = enter(writer, reader, bound);
-    let w = e.writer;
-    let r = e.reader;
-    let f = Frame {
-        n1: w.states,
-        n2: r.states,
-        top: bound as u8,
-    };
-    places(f, w.states) as u64
+    let p = e.pair;
+    let f = frame_of(p);
+    places(f, f.n1) as u64
 }
 
 // Builds into the lent bytes, and writes the first line of the listing, or the line of a refusal.
 pub fn head(out: &mut [u8; 512], writer: &[u8], reader: &[u8], bound: u64, kept: &mut [u8]) -> usize
-    ensures { λ r. ⌜ HeadSays (now (writer .entry)) (now (reader .entry)) bound (now (kept .entry)) (now (kept .exit)) (now (out .entry)) r (now (out .exit)) ⌝ }
+    ensures { λ r. ⌜ HeadSays (callOf (now (writer .entry)) (now (reader .entry)) bound) (now (kept .entry)) (now (kept .exit)) (now (out .entry)) r (now (out .exit)) ⌝ }
 {
     let b = build(writer, reader, bound, kept);
     let v = b.verdict;
@@ -57,8 +53,8 @@ fn spot_line(
     p: u64,
     readers: u64,
 ) -> usize
-    requires { ⌜ (0 < readers) × (bound ≤ 15) ⌝ }
-    ensures { λ r. ⌜ Written (spotText (now (writer .entry)) (now (reader .entry)) bound (now (kept .entry)) (spotAt readers bound p)) (now (out .entry)) r (now (out .exit)) ⌝ }
+    requires { ⌜ (0 < readers) × ((bound ≤ 15) × (readers ≡ pairOf (callOf (now writer) (now reader) bound) .reader .states)) ⌝ }
+    ensures { λ r. ⌜ Written (textAt (callOf (now (writer .entry)) (now (reader .entry)) bound) (now (kept .entry)) p) (now (out .entry)) r (now (out .exit)) ⌝ }
 {
     let levels = bound + 1;
     let states = p / levels;
@@ -82,7 +78,7 @@ pub fn place_line(
     kept: &[u8],
     p: usize,
 ) -> usize
-    ensures { λ r. ⌜ Written (placeText (now (writer .entry)) (now (reader .entry)) bound (now (kept .entry)) p) (now (out .entry)) r (now (out .exit)) ⌝ }
+    ensures { λ r. ⌜ Written (placeText (callOf (now (writer .entry)) (now (reader .entry)) bound) (now (kept .entry)) p) (now (out .entry)) r (now (out .exit)) ⌝ }
 {
     if kept.len() <= p {
         return 0;
@@ -95,6 +91,6 @@ pub fn place_line(
     let Verdict::Fine = v else {
         return 0;
     };
-    let r = e.reader;
-    spot_line(out, writer, reader, bound, kept, p as u64, r.states as u64)
+    let states = e.pair.reader.states;
+    spot_line(out, writer, reader, bound, kept, p as u64, states as u64)
 }

@@ -1,8 +1,7 @@
-pub mod Rows
 pub mod Passes
 pub mod Places
-pub mod Tests
-pub mod Passage
+pub mod Sets
+pub mod Tools
 pub mod Bytes
 pub mod Laws
 pub mod Bridges

@@ -2,4 +2,4 @@ pub mod Configurations
 pub mod Sets
 pub mod Kept
 pub mod Bridges
-pub mod Computed
+pub mod Tools

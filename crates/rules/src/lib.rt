@@ -1,5 +1,21 @@
-// What a reader believes, in specs/: configurations, moves, the largest correct set, rounds and other bridges, over two tables in hand and a bound.
-// proofs/ has what follows from it. This crate has no code that a caller needs.
+// What a reader believes of the rules, in specs/: configurations, moves, the largest correct set, rounds, kept bytes and other bridges, over
+// two tables in hand and a bound. specs/Tools/ computes the same and need not be believed. proofs/ has what follows.
+// This crate has the structs that the definitions and the code share, and no code.
+use format::Table;
+
+// Two tables in hand and the bound B of the buffer between them.
+pub struct Pair {
+    pub writer: Table,
+    pub reader: Table,
+    pub bound: u64,
+}
+
+// A configuration: the writer's state, the reader's state, the level.
+pub struct Conf {
+    pub writer: u8,
+    pub reader: u8,
+    pub level: u8,
+}
 
 // A crate has at least one function.
 fn nothing() {}

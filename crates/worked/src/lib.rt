@@ -1,4 +1,5 @@
-// Document 01's worked pairs A and C as bytes, and their kept bytes of cases 2 and 5, for the programs that list and try them.
+// Document 01's worked pairs A and C as bytes with the bounds that the listing takes, and their kept bytes of cases 2 and 5, for the
+// programs that list and try them.
 pub const A_WRITER: [u8; 24] = [
     1,
     0,
@@ -53,6 +54,9 @@ pub const A_READER: [u8; 24] = [
     1,
 ];
 
+// "pair A at bounds 0, 1, 2, then pair C at 1, 2"
+pub const A_BOUNDS: [u64; 3] = [0, 1, 2];
+
 pub const C_WRITER: [u8; 34] = [
     1,
     0,
@@ -91,6 +95,8 @@ pub const C_WRITER: [u8; 34] = [
 ];
 
 pub const C_READER: [u8; 19] = [1, 0, 16, 2, 1, 0, 0, 2, 2, 0, 0, 0, 0, 0, 0, 1, 1, 1, 0];
+
+pub const C_BOUNDS: [u64; 2] = [1, 2];
 
 pub const A_KEPT: [u8; 8] = [1, 0, 0, 0, 0, 1, 1, 0];
 

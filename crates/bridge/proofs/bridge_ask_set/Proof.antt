@@ -1,6 +1,6 @@
 -- `bridge::bridge_ask_set` meets its contract. Assumes nothing.
 use mathlib.Core.Path.{ap}
-use Rattle.moves.specs.declared.Asked.{Asked}
+use Rattle.calls.specs.declared.Asked.{Asked}
 use borrow.Author.Needs.{needs}
 use Rattle.bridge.proofs.bridge_ask_set.Statement.{statement}
 use Rattle.bridge.proofs.bridge_ask_set.Tie as tie

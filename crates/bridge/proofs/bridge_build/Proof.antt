@@ -1,6 +1,7 @@
 -- `bridge::bridge_build` meets its contract: kept and rounds fit their places. Assumes nothing.
 use native.Mathlib.Omega.{arith}
-use Rattle.bridge.proofs.Ranges.{Few, built-few}
+use Rattle.calls.specs.Call.{callOf}
+use Rattle.calls.proofs.Ranges.{Few, built-few}
 use borrow.Author.Needs.{needs}
 use Rattle.bridge.proofs.bridge_build.Statement.{statement}
 use Rattle.bridge.proofs.bridge_build.Tie as tie
@@ -9,7 +10,12 @@ build-requires : tie.Need-build-requires
 build-requires c κs = search needs
 
 pack-verdict-requires : tie.Need-pack-verdict-requires
-pack-verdict-requires c κs = let few : Few (c .before .before .build .result) = built-few (c .before .before .before .before .before .before .before .args .writer .now) (c .before .before .before .before .before .before .before .args .reader .now) (c .before .before .before .before .before .before .before .args .bound) (c .before .before .before .before .before .before .before .args .buffer .now) _ (c .before .before .build .result) (c .before .before .build .ensures) in (omega (arith, few .0), omega (arith, few .1))
+pack-verdict-requires c κs =
+    let b = c .before .before in
+    let a = b .before .before .before .before .before .args in
+    let call = callOf (a .writer .now) (a .reader .now) (a .bound) in
+    let few : Few (b .build .result) = built-few call (a .buffer .now) _ (b .build .result) (b .build .ensures) in
+    (omega (arith, few .0), omega (arith, few .1))
 
 same-length : tie.Need-same-length
 same-length c = search needs

@@ -1,7 +1,7 @@
 -- `lines::conf_line` meets its contract: three numbers, the word, the moves and the end of the line. Assumes nothing.
 use native.Mathlib.Omega.{arith}
-use Rattle.lines.specs.Text.{confLine}
-use Rattle.lines.proofs.Store.{then, whole}
+use Rattle.texts.specs.Text.{confLine}
+use Rattle.put.proofs.Pieces.{then, whole}
 use borrow.Author.Needs.{needs}
 use Rattle.lines.proofs.conf_line.Statement.{statement}
 use Rattle.lines.proofs.conf_line.Tie as tie
@@ -36,17 +36,18 @@ put-moves-requires c κs = search needs
 end-line-requires : tie.Need-end-line-requires
 end-line-requires c κs = search needs
 
+-- p1 to p3 are the places behind the three numbers, w that behind the word, m that behind the moves
 returns : tie.Need-returns
 unfolding confLine
 returns c =
-    whole
-    (then (then (then (then (then (c .before .before .before .before .before .before .before .before .before .before .before .before .before .put-field .ensures .0)
-    (c .before .before .before .before .before .before .before .before .before .before .put-field2 .ensures .0))
-    (c .before .before .before .before .before .before .before .put-field3 .ensures .0))
-    (c .before .before .before .before .put .ensures))
-    (c .before .before .put-moves .ensures .0))
-    (c .end-line .ensures))
-    (omega arith)
+    let m = c .before .before in
+    let w = m .before .before in
+    let p3 = w .before .before .before in
+    let p2 = p3 .before .before .before in
+    let p1 = p2 .before .before .before in
+    let two = then (p1 .put-field .ensures .0) (p2 .put-field2 .ensures .0) in
+    let word = then (then two (p3 .put-field3 .ensures .0)) (w .put .ensures) in
+    whole (then (then word (m .put-moves .ensures .0)) (c .end-line .ensures)) (omega arith)
 
 pub conf-line-spec : {M : Type 1} → statement M
 conf-line-spec =

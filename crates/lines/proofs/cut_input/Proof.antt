@@ -1,6 +1,6 @@
 -- `lines::cut_input` meets its contract. Assumes nothing.
 use native.Mathlib.Omega.{arith}
-use Rattle.lines.proofs.Cuts.{writer-inside, cut-none, cut-some}
+use Rattle.texts.proofs.Cuts.{writer-inside, cut-none, cut-some}
 use borrow.Author.Needs.{needs}
 use Rattle.lines.proofs.cut_input.Statement.{statement}
 use Rattle.lines.proofs.cut_input.Tie as tie
@@ -21,7 +21,9 @@ wide-requires : tie.Need-wide-requires
 wide-requires c κs = search needs
 
 returns-2 : tie.Need-returns-2
-returns-2 c = cut-some _ _ _ (c .before .before .before .writer-end .ensures) (c .before .before .if1 .left) (c .wide .ensures .0)
+returns-2 c =
+    let rest = c .before .before in
+    cut-some _ _ (rest .before .writer-end .ensures) _ (rest .if1 .left) (c .wide .ensures .0)
 
 pub cut-input-spec : {M : Type 1} → statement M
 cut-input-spec =

@@ -1,7 +1,7 @@
 -- `lines::first_line` meets its contract: four words with their numbers, and the end of the line. Assumes nothing.
 use native.Mathlib.Omega.{arith}
-use Rattle.lines.specs.Text.{firstLine}
-use Rattle.lines.proofs.Store.{then, whole}
+use Rattle.texts.specs.Text.{firstLine}
+use Rattle.put.proofs.Pieces.{then, whole}
 use borrow.Author.Needs.{needs}
 use Rattle.lines.proofs.first_line.Statement.{statement}
 use Rattle.lines.proofs.first_line.Tie as tie
@@ -33,16 +33,17 @@ put-field-requires-4 c κs = search needs
 end-line-requires : tie.Need-end-line-requires
 end-line-requires c κs = search needs
 
+-- p1 to p4 are the places behind the four fields
 returns : tie.Need-returns
 unfolding firstLine
 returns c =
-    whole
-    (then (then (then (then (c .before .before .before .before .before .before .before .before .before .before .before .put-field .ensures .0)
-    (c .before .before .before .before .before .before .before .before .put-field2 .ensures .0))
-    (c .before .before .before .before .before .put-field3 .ensures .0))
-    (c .before .before .put-field4 .ensures .0))
-    (c .end-line .ensures))
-    (omega arith)
+    let p4 = c .before .before in
+    let p3 = p4 .before .before .before in
+    let p2 = p3 .before .before .before in
+    let p1 = p2 .before .before .before in
+    let two = then (p1 .put-field .ensures .0) (p2 .put-field2 .ensures .0) in
+    let four = then (then two (p3 .put-field3 .ensures .0)) (p4 .put-field4 .ensures .0) in
+    whole (then four (c .end-line .ensures)) (omega arith)
 
 pub first-line-spec : {M : Type 1} → statement M
 first-line-spec =

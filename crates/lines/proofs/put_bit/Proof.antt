@@ -1,6 +1,6 @@
 -- `lines::put_bit` meets its contract: the move stands there exactly if the set has the bit. Assumes nothing.
-use Rattle.lines.proofs.Store.{put-nothing, reads-as}
-use Rattle.lines.proofs.Moves.{bit-set, bit-clear}
+use Rattle.put.proofs.Pieces.{put-nothing, reads-as}
+use Rattle.texts.proofs.Moves.{bit-set, bit-clear}
 use borrow.Author.Needs.{needs}
 use Rattle.lines.proofs.put_bit.Statement.{statement}
 use Rattle.lines.proofs.put_bit.Tie as tie
@@ -15,7 +15,9 @@ same-length : tie.Need-same-length
 same-length c = search needs
 
 returns : tie.Need-returns
-returns c = reads-as (bit-set _ _ (c .before .before .before .before .if1 .taken)) (c .before .before .put-move .ensures)
+returns c =
+    let p = c .before .before in
+    reads-as (bit-set _ _ (p .before .before .if1 .taken)) (p .put-move .ensures)
 
 returns-2 : tie.Need-returns-2
 returns-2 c = reads-as (bit-clear _ _ (c .if1 .left)) (put-nothing _ _)

@@ -20,7 +20,10 @@ same-length : tie.Need-same-length
 same-length c = search needs
 
 returns : tie.Need-returns
-returns c = put-move-as _ _ _ (c .before .before .before .before .before .before .digit .ensures) (c .before .before .before .before .before .digit2 .ensures) (c .before .before .put .ensures)
+returns c =
+    let p = c .before .before in
+    let y = p .before .before .before in
+    put-move-as _ _ _ (y .before .digit .ensures) (y .digit2 .ensures) (p .put .ensures)
 
 pub put-move-spec : {M : Type 1} → statement M
 put-move-spec =

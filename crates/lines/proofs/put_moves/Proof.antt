@@ -3,9 +3,10 @@ use Prim.Native.Nat.{_-_, _≤_}
 use native.Mathlib.Omega.{arith}
 use mathlib.Core.Path.{_≡_, refl, _∙_}
 use lib.ListN.{length}
-use Rattle.lines.specs.Text.{movesBelow}
-use Rattle.lines.specs.Written.{Put}
-use Rattle.lines.proofs.Moves.{moves-length, moves-start, moves-next, moves-end}
+use Rattle.texts.specs.Text.{movesBelow}
+use Rattle.put.specs.Piece.{Put}
+use Rattle.texts.proofs.Moves.{moves-length}
+use Rattle.lines.proofs.Moves.{moves-start, moves-next, moves-end}
 use Rattle.lines.proofs.put_moves.Statement.{statement}
 use Rattle.lines.proofs.put_moves.Tie as tie
 
@@ -21,7 +22,8 @@ loop-holds c = (omega arith, refl, moves-start _ _ _)
 
 put-bit-requires : tie.Need-put-bit-requires Inv-loop μ-loop
 put-bit-requires c κs =
-    let v = c .before .before .loop in omega (arith, v .inv .2 .next, moves-length (c .before .before .before .before .args .set) (v .m))
+    let v = c .before .before in
+    omega (arith, v .loop .inv .2 .next, moves-length (v .before .before .args .set) (v .loop .m))
 
 add-m : tie.Need-add-m Inv-loop μ-loop
 add-m c = omega arith
@@ -31,8 +33,9 @@ loop-less c = omega arith
 
 loop-again : tie.Need-loop-again Inv-loop μ-loop
 loop-again c =
-    let v = c .before .before .before .before .before .loop .inv in
-    (omega arith, c .before .before .put-bit .kept .0 ∙ v .1, moves-next _ _ (v .2) (c .before .before .put-bit .ensures))
+    let p = c .before .before in
+    let v = p .before .before .before .loop .inv in
+    (omega arith, p .put-bit .kept .0 ∙ v .1, moves-next _ _ (v .2) (p .put-bit .ensures))
 
 same-length : tie.Need-same-length Inv-loop μ-loop
 same-length c = c .before .loop .inv .1

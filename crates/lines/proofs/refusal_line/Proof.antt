@@ -1,7 +1,7 @@
 -- `lines::refusal_line` meets its contract: three words with their numbers, and the end of the line. Assumes nothing.
 use native.Mathlib.Omega.{arith}
-use Rattle.lines.specs.Text.{refusalLine}
-use Rattle.lines.proofs.Store.{then, whole}
+use Rattle.texts.specs.Text.{refusalLine}
+use Rattle.put.proofs.Pieces.{then, whole}
 use borrow.Author.Needs.{needs}
 use Rattle.lines.proofs.refusal_line.Statement.{statement}
 use Rattle.lines.proofs.refusal_line.Tie as tie
@@ -27,15 +27,15 @@ put-field-requires-3 c κs = search needs
 end-line-requires : tie.Need-end-line-requires
 end-line-requires c κs = search needs
 
+-- p1 to p3 are the places behind the three fields
 returns : tie.Need-returns
 unfolding refusalLine
 returns c =
-    whole
-    (then (then (then (c .before .before .before .before .before .before .before .before .put-field .ensures .0)
-    (c .before .before .before .before .before .put-field2 .ensures .0))
-    (c .before .before .put-field3 .ensures .0))
-    (c .end-line .ensures))
-    (omega arith)
+    let p3 = c .before .before in
+    let p2 = p3 .before .before .before in
+    let p1 = p2 .before .before .before in
+    let two = then (p1 .put-field .ensures .0) (p2 .put-field2 .ensures .0) in
+    whole (then (then two (p3 .put-field3 .ensures .0)) (c .end-line .ensures)) (omega arith)
 
 pub refusal-line-spec : {M : Type 1} → statement M
 refusal-line-spec =

@@ -1,10 +1,17 @@
 -- `lines::writer_end` meets its contract. Assumes nothing.
-use mathlib.Core.Path.{sym}
 use native.Mathlib.Omega.{arith}
-use Rattle.lines.proofs.Cuts.{no-field, field-past, field-within}
+use Prim.Native.Nat.{_+_, min}
+use mathlib.Core.Path.{_≡_, sym}
+use lib.ListN.{length}
+use Rattle.texts.specs.Cut.{lengthField, writerBytes}
+use Rattle.texts.proofs.Cuts.{no-field, a-field}
 use borrow.Author.Needs.{needs}
 use Rattle.lines.proofs.writer_end.Statement.{statement}
 use Rattle.lines.proofs.writer_end.Tie as tie
+
+-- with a length field
+by-field : (c : tie.Else1) → let bs = c .before .before .args .input .now in writerBytes bs ≡ min (3 + lengthField bs) (length bs)
+by-field c = a-field _ (c .if1 .left)
 
 returns : tie.Need-returns
 returns c = sym (no-field _ (c .if1 .taken))
@@ -31,10 +38,10 @@ add-end-2 : tie.Need-add-end-2
 add-end-2 c = search needs
 
 returns-2 : tie.Need-returns-2
-returns-2 c = field-past _ _ (omega arith) (omega arith) (c .if2 .taken)
+returns-2 c = omega (arith, by-field (c .before .before .before .before .before))
 
 returns-3 : tie.Need-returns-3
-returns-3 c = field-within _ _ (omega arith) (omega arith) (c .if2 .left)
+returns-3 c = omega (arith, by-field (c .before .before .before .before .before))
 
 pub writer-end-spec : {M : Type 1} → statement M
 writer-end-spec =

@@ -2,9 +2,9 @@
 use mathlib.Core.Path.{sym, subst}
 use lib.Seq.{length-take-le}
 use native.Mathlib.Omega.{arith}
-use Rattle.lines.specs.declared.Cut.{Cut}
-use Rattle.lines.specs.Cut.{InOrder}
-use Rattle.lines.proofs.Cuts.{in-order}
+use Rattle.texts.specs.declared.Cut.{Cut}
+use Rattle.texts.specs.Cut.{InOrder}
+use Rattle.texts.proofs.Cuts.{in-order}
 use borrow.Author.Needs.{needs}
 use Rattle.listing.proofs.list_input.Statement.{statement}
 use Rattle.listing.proofs.list_input.Tie as tie

@@ -1,8 +1,22 @@
 -- `pages::head` meets its contract: build, and the line of its answer. Assumes nothing.
-use Rattle.pages.proofs.Texts.{instead, built-entered, head-fine, head-refused}
+use Rattle.calls.specs.Call.{Call, callOf, pairOf}
+use Rattle.listings.proofs.Texts.{instead, built-entered, head-fine, head-refused}
 use borrow.Author.Needs.{needs}
 use Rattle.pages.proofs.head.Statement.{statement}
 use Rattle.pages.proofs.head.Tie as tie
+
+abbrev entry : tie.After-build → tie.Start
+entry c = c .before .before .before .before .before
+
+abbrev call : tie.After-build → Call
+call c = let a = entry c .args in callOf (a .writer .now) (a .reader .now) (a .bound)
+
+-- where build accepts, and where it refuses
+abbrev accepted : tie.After-enum-told → tie.After-build
+accepted c = c .before .before .before .before
+
+abbrev refused : tie.After-known-told → tie.After-build
+refused c = c .before .before .before .before .before
 
 build-requires : tie.Need-build-requires
 build-requires c κs = search needs
@@ -14,7 +28,9 @@ enum-told : tie.Need-enum-told
 enum-told c = search needs
 
 all-places-requires : tie.Need-all-places-requires
-all-places-requires c κs = built-entered (c .before .before .before .before .before .before .before .before .before .args .writer .now) (c .before .before .before .before .before .before .before .before .before .args .reader .now) (c .before .before .before .before .before .before .before .before .before .args .bound) (c .before .before .before .before .before .before .before .before .before .args .kept .now) _ (c .before .before .before .before .build .result) (c .before .before .before .before .build .ensures) (c .enum-told .given .1)
+all-places-requires c κs =
+    let b = accepted c in
+    built-entered (call b) (entry b .args .kept .now) _ (b .build .result) (b .build .ensures) (c .enum-told .given .1)
 
 first-line-requires : tie.Need-first-line-requires
 first-line-requires c κs = search needs
@@ -23,11 +39,14 @@ same-length : tie.Need-same-length
 same-length c = search needs
 
 returns : tie.Need-returns
-returns c = record {
-  built = c .before .before .before .before .before .before .before .build .result;
-  says = c .before .before .before .before .before .before .before .build .ensures;
-  line = instead (head-fine _ _ _ (c .before .before .before .before .before .before .before .build .result) (c .before .before .all-places .ensures) (c .before .before .before .enum-told .given .1)) (c .first-line .ensures);
-}
+returns c =
+    let a = c .before .before in
+    let b = accepted (a .before) in
+    record {
+      built = b .build .result;
+      says = b .build .ensures;
+      line = instead (head-fine (pairOf (call b)) (b .build .result) (a .all-places .ensures) (a .before .enum-told .given .1)) (c .first-line .ensures);
+    }
 
 cast-refusal-line : tie.Need-cast-refusal-line
 cast-refusal-line c = search needs
@@ -45,11 +64,14 @@ same-length-2 : tie.Need-same-length-2
 same-length-2 c = search needs
 
 returns-2 : tie.Need-returns-2
-returns-2 c = record {
-  built = c .before .before .before .before .before .before .before .build .result;
-  says = c .before .before .before .before .before .before .before .build .ensures;
-  line = instead (head-refused _ _ _ (c .before .before .before .before .before .before .before .build .result) (c .before .before .before .v .given .1)) (c .refusal-line .ensures);
-}
+returns-2 c =
+    let t = c .before .before in
+    let b = refused t in
+    record {
+      built = b .build .result;
+      says = b .build .ensures;
+      line = instead (head-refused (pairOf (call b)) (b .build .result) (t .before .v .given .1)) (c .refusal-line .ensures);
+    }
 
 pub head-spec : {M : Type 1} → statement M
 head-spec =

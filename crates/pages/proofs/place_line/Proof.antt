@@ -1,18 +1,32 @@
 -- `pages::place_line` meets its contract. Assumes nothing.
 use native.Mathlib.Omega.{arith}
-use Rattle.pages.proofs.Texts.{nothing, instead, place-past, place-out, place-refused, place-in, entered-good, entered-bound}
+use mathlib.Core.Path.{_≡_, sym, ap, _∙_}
+use Rattle.rules.specs.declared.Pair.{Pair}
+use Rattle.calls.specs.Call.{Call, callOf, pairOf}
+use Rattle.calls.proofs.Silent.{enter-good, enter-bound}
+use Rattle.entry.proofs.Entering.{entry-fine}
+use Rattle.listings.proofs.Texts.{nothing, instead, place-past, place-out, place-kept, place-refused}
 use borrow.Author.Needs.{needs}
 use Rattle.pages.proofs.place_line.Statement.{statement}
 use Rattle.pages.proofs.place_line.Tie as tie
 
+abbrev entry : tie.Else2 → tie.Start
+entry c = c .before .before .before .before .before .before
+
+abbrev call : tie.Else2 → Call
+call c = let a = entry c .args in callOf (a .writer .now) (a .reader .now) (a .bound)
+
+abbrev entered : tie.After-enum-told → tie.After-enter
+entered c = c .before .before
+
 returns : tie.Need-returns
-returns c = nothing _ (place-past _ _ _ _ _ (c .if1 .taken))
+returns c = nothing _ (place-past _ _ _ (c .if1 .taken))
 
 shared-slice-read-if2 : tie.Need-shared-slice-read-if2
 shared-slice-read-if2 c = search needs
 
 returns-2 : tie.Need-returns-2
-returns-2 c = nothing _ (place-out _ _ _ _ _ (c .if2 .taken))
+returns-2 c = nothing _ (place-out _ _ _ (c .if2 .taken))
 
 enter-requires : tie.Need-enter-requires
 enter-requires c κs = search needs
@@ -24,16 +38,23 @@ enum-told-2 : tie.Need-enum-told-2
 enum-told-2 c = search needs
 
 returns-3 : tie.Need-returns-3
-returns-3 c = nothing _ (place-refused _ _ _ _ _ (c .before .before .before .if2 .left) (c .before .before .enter .ensures) (c .enum-told2 .given .1))
+returns-3 c =
+    let e = c .before .before in
+    nothing _ (place-refused _ _ _ (e .before .if2 .left) (sym (e .enter .ensures .told) ∙ c .enum-told2 .given .1))
 
 cast-spot-line : tie.Need-cast-spot-line
 cast-spot-line c = search needs
 
 spot-line-requires : tie.Need-spot-line-requires
-spot-line-requires c κs = (omega (arith, entered-good (c .before .before .before .before .before .before .before .before .before .before .before .before .args .writer .now) (c .before .before .before .before .before .before .before .before .before .before .before .before .args .reader .now) (c .before .before .before .before .before .before .before .before .before .before .before .before .args .bound) (c .before .before .before .before .before .enter .ensures) (c .before .before .before .enum-told .given .1)), entered-bound (c .before .before .before .before .before .before .before .before .before .before .before .before .args .writer .now) (c .before .before .before .before .before .before .before .before .before .before .before .before .args .reader .now) (c .before .before .before .before .before .before .before .before .before .before .before .before .args .bound) (c .before .before .before .before .before .enter .ensures) (c .before .before .before .enum-told .given .1))
+spot-line-requires c κs =
+    let e = entered (c .before) in
+    let fine = entry-fine (e .enter .ensures) (c .before .enum-told .given .1) in
+    let k = call (e .before) in
+    let readers = ap (λ (X : Pair). X .reader .states) (e .enter .ensures .pair-is) in
+    (omega (arith, enter-good k fine .reader .states .0, readers), (enter-bound k fine, readers))
 
 returns-4 : tie.Need-returns-4
-returns-4 c = instead (place-in _ _ _ _ _ (c .before .before .before .before .before .before .before .if2 .left) (c .before .before .before .before .before .before .enter .ensures)) (c .spot-line .ensures)
+returns-4 c = let e = entered (c .before .before) in instead (place-kept _ _ _ (e .before .if2 .left)) (c .spot-line .ensures)
 
 pub place-line-spec : {M : Type 1} → statement M
 place-line-spec =

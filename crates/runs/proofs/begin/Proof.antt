@@ -1,5 +1,5 @@
--- `runs::begin` meets its contract. Assumes nothing.
-use Rattle.runs.proofs.Beginning.{begin-refused, begin-done}
+-- `runs::begin` meets its contract: the entry checks, then the start. Assumes nothing.
+use Rattle.runs.proofs.Answers.{begin-refused, begin-starts}
 use borrow.Author.Needs.{needs}
 use Rattle.runs.proofs.begin.Statement.{statement}
 use Rattle.runs.proofs.begin.Tie as tie
@@ -17,7 +17,7 @@ empty-run-requires : tie.Need-empty-run-requires
 empty-run-requires c κs = search needs
 
 returns : tie.Need-returns
-returns c = begin-refused _ _ _ (c .before .before .before .enter .ensures) (c .before .enum-told2 .given .1) (c .empty-run .ensures)
+returns c = begin-refused _ (c .before .before .before .enter .ensures) (c .before .enum-told2 .given .1) (c .empty-run .ensures)
 
 cast-empty-run : tie.Need-cast-empty-run
 cast-empty-run c = search needs
@@ -29,7 +29,9 @@ empty-run-requires-2 : tie.Need-empty-run-requires-2
 empty-run-requires-2 c κs = search needs
 
 returns-2 : tie.Need-returns-2
-returns-2 c = begin-done _ _ _ (c .before .before .before .before .before .before .before .enter .ensures) (c .before .before .before .before .before .enum-told .given .1) (c .empty-run2 .ensures)
+returns-2 c =
+    let e = c .before .before .before .before in
+    begin-starts _ (e .before .before .enter .ensures) (e .enum-told .given .1) (c .empty-run2 .ensures)
 
 pub begin-spec : {M : Type 1} → statement M
 begin-spec =

@@ -1,5 +1,5 @@
 -- `runs::empty_run` meets its contract. Assumes nothing.
-use Rattle.runs.proofs.Queues.{padded-none}
+use Rattle.calls.proofs.Queues.{padded-none}
 use Rattle.runs.proofs.empty_run.Statement.{statement}
 use Rattle.runs.proofs.empty_run.Tie as tie
 

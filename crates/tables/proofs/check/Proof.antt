@@ -2,17 +2,20 @@
 use denote.Ref.{now}
 use native.Mathlib.Omega.{arith}
 use mathlib.Core.Path.{_≡_, sym, _∙_}
-use Rattle.tables.specs.Verdicts.{verdictOf}
-use Rattle.tables.specs.declared.Verdict.the-variants.{Fine}
-use Rattle.tables.specs.Reads.{headerChecks, rowChecks}
-use Rattle.tables.proofs.Verdicts.{fine-goes-on, refused-stays}
-use Rattle.tables.proofs.Readings.{header-says}
+use Rattle.format.specs.Verdicts.{verdictOf}
+use Rattle.format.specs.declared.Verdict.the-variants.{Fine}
+use Rattle.format.specs.Reads.{headerChecks, rowChecks}
+use Rattle.format.proofs.Verdicts.{fine-goes-on, refused-stays}
+use Rattle.format.proofs.Readings.{header-says}
 use borrow.Author.Needs.{needs}
 use Rattle.tables.proofs.check.Statement.{statement}
 use Rattle.tables.proofs.check.Tie as tie
 
+abbrev entry : tie.After-enum-told → tie.Start
+entry c = c .before .before .before .before
+
 -- past the header
-header-fine : (c : tie.After-enum-told) → verdictOf (headerChecks (now (c .before .before .before .before .args .b)) (c .before .before .before .before .args .s)) ≡ Fine
+header-fine : (c : tie.After-enum-told) → verdictOf (headerChecks (now (entry c .args .b)) (entry c .args .s)) ≡ Fine
 header-fine c = sym (c .before .before .check-header .ensures) ∙ c .enum-told .given .1
 
 check-header-requires : tie.Need-check-header-requires
@@ -25,7 +28,9 @@ enum-told-2 : tie.Need-enum-told-2
 enum-told-2 c = search needs
 
 returns : tie.Need-returns
-returns c = c .before .before .check-header .ensures ∙ refused-stays (headerChecks _ _) (rowChecks _ _) (sym (c .before .before .check-header .ensures) ∙ c .enum-told2 .given .1)
+returns c =
+    let told = c .before .before .check-header .ensures in
+    told ∙ refused-stays (headerChecks _ _) (rowChecks _ _) (sym told ∙ c .enum-told2 .given .1)
 
 check-rows-requires : tie.Need-check-rows-requires
 check-rows-requires c κs = let h = header-says _ _ (header-fine c) in (h .ranges .4, omega arith)

@@ -1,20 +1,25 @@
 -- `tables::check_header` meets its contract: at each return the lines of the table of refusals before it do not apply. Assumes nothing.
 use native.Mathlib.Omega.{arith}
-use Prim.Native.Nat.{ℕ}
 use denote.Ref.{now}
 use mathlib.Core.Bool.{false}
 use mathlib.Core.Path.{_≡_, sym, _∙_}
-use Rattle.tables.specs.Reads.{lengthWrong, rangeWrong}
-use Rattle.tables.proofs.Header.{header-1, header-2, header-3, header-4, header-5, header-6, header-fine}
+use Rattle.format.specs.Reads.{lengthWrong, rangeWrong}
+use Rattle.format.proofs.Header.{header-1, header-2, header-3, header-4, header-5, header-6, header-fine}
 use borrow.Author.Needs.{needs}
 use Rattle.tables.proofs.check_header.Statement.{statement}
 use Rattle.tables.proofs.check_header.Tie as tie
 
+abbrev entry : tie.Else3 → tie.Start
+entry c = c .before .before .before .before .before .before
+
 -- past refusal 3, and past refusal 5
-long : (c : tie.Else3) → lengthWrong (now (c .before .before .before .before .before .before .args .b)) ≡ false
+long : (c : tie.Else3) → lengthWrong (now (entry c .args .b)) ≡ false
 long c = sym (c .before .length-wrong .ensures) ∙ c .if3 .left
 
-in-range : (c : tie.Else5) → rangeWrong (now (c .before .before .before .before .before .before .before .before .before .before .args .b)) ≡ false
+abbrev past-3 : tie.Else5 → tie.Else3
+past-3 c = c .before .before .before .before
+
+in-range : (c : tie.Else5) → rangeWrong (now (entry (past-3 c) .args .b)) ≡ false
 in-range c = sym (c .before .range-wrong .ensures) ∙ c .if5 .left
 
 refuse-requires : tie.Need-refuse-requires
@@ -57,7 +62,10 @@ refuse-requires-5 : tie.Need-refuse-requires-5
 refuse-requires-5 c κs = search needs
 
 returns-5 : tie.Need-returns-5
-returns-5 c = c .refuse5 .ensures ∙ header-5 _ _ (omega arith) (omega arith) (long (c .before .before .before .before .before)) (omega arith) (sym (c .before .before .range-wrong .ensures) ∙ c .before .if5 .taken)
+returns-5 c =
+    let r = c .before .before in
+    let wrong = sym (r .range-wrong .ensures) ∙ c .before .if5 .taken in
+    c .refuse5 .ensures ∙ header-5 _ _ (omega arith) (omega arith) (long (r .before .before .before)) (omega arith) wrong
 
 shared-slice-read-n : tie.Need-shared-slice-read-n
 shared-slice-read-n c = search needs
@@ -69,7 +77,9 @@ refuse-requires-6 : tie.Need-refuse-requires-6
 refuse-requires-6 c κs = search needs
 
 returns-6 : tie.Need-returns-6
-returns-6 c = c .refuse6 .ensures ∙ header-6 _ _ (omega arith) (omega arith) (long (c .before .before .before .before .before .before .before .before)) (omega arith) (in-range (c .before .before .before .before)) (λ h. omega arith)
+returns-6 c =
+    let e = c .before .before .before .before in
+    c .refuse6 .ensures ∙ header-6 _ _ (omega arith) (omega arith) (long (past-3 e)) (omega arith) (in-range e) (λ h. omega arith)
 
 shared-slice-read-if7 : tie.Need-shared-slice-read-if7
 shared-slice-read-if7 c = search needs
@@ -78,10 +88,14 @@ refuse-requires-7 : tie.Need-refuse-requires-7
 refuse-requires-7 c κs = search needs
 
 returns-7 : tie.Need-returns-7
-returns-7 c = c .refuse7 .ensures ∙ header-6 _ _ (omega arith) (omega arith) (long (c .before .before .before .before .before .before .before .before .before .before)) (omega arith) (in-range (c .before .before .before .before .before .before)) (λ h. omega arith)
+returns-7 c =
+    let e = c .before .before .before .before .before .before in
+    c .refuse7 .ensures ∙ header-6 _ _ (omega arith) (omega arith) (long (past-3 e)) (omega arith) (in-range e) (λ h. omega arith)
 
 returns-8 : tie.Need-returns-8
-returns-8 c = header-fine _ _ (omega arith) (omega arith) (long (c .before .before .before .before .before .before .before .before .before)) (omega arith) (in-range (c .before .before .before .before .before)) (omega arith, omega arith)
+returns-8 c =
+    let e = c .before .before .before .before .before in
+    header-fine _ _ (omega arith) (omega arith) (long (past-3 e)) (omega arith) (in-range e) (omega arith, omega arith)
 
 pub check-header-spec : {M : Type 1} → statement M
 check-header-spec =

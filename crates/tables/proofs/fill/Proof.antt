@@ -7,8 +7,8 @@ use native.Mathlib.Omega.{arith}
 use mathlib.Core.Path.{_≡_, _∙_}
 use Rattle.lists.specs.Lists.{tab}
 use Rattle.lists.proofs.Tab.{fill-start, fill-next}
-use Rattle.tables.specs.Format.{rowAt, noRows, rowsOf}
-use Rattle.tables.proofs.Rows.{length-noRows, drop-noRows}
+use Rattle.format.specs.Format.{rowAt, noRows, rowsOf}
+use Rattle.format.proofs.RowTests.{length-noRows, drop-noRows}
 use Rattle.tables.proofs.fill.Statement.{statement}
 use Rattle.tables.proofs.fill.Tie as tie
 
@@ -42,10 +42,11 @@ loop-less c = omega arith
 
 loop-again : tie.Need-loop-again Inv-loop μ-loop
 loop-again c =
-    let v = c .before .before .loop .inv in (
+    let v = c .before .before .loop .inv in
+    let e = c .before .before .before .before .before in (
       omega arith,
       simp length-set (v .1),
-      rw (c .row-at .ensures, v .2) (fill-next (rowAt (c .before .before .before .before .before .args .b .now)) noRows (c .before .before .loop .i) (omega (arith, length-noRows))),
+      rw (c .row-at .ensures, v .2) (fill-next (rowAt (e .args .b .now)) noRows (c .before .before .loop .i) (omega (arith, length-noRows))),
     )
 
 returns : tie.Need-returns Inv-loop μ-loop

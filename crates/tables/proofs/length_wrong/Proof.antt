@@ -1,6 +1,6 @@
 -- `tables::length_wrong` meets its contract: the two tests are the two of refusal 3. Assumes nothing.
 use native.Mathlib.Omega.{arith}
-use Rattle.tables.proofs.Header.{length-wrong, length-right}
+use Rattle.format.proofs.Header.{length-wrong, length-right}
 use borrow.Author.Needs.{needs}
 use Rattle.tables.proofs.length_wrong.Statement.{statement}
 use Rattle.tables.proofs.length_wrong.Tie as tie

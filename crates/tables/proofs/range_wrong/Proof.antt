@@ -1,6 +1,6 @@
 -- `tables::range_wrong` meets its contract: each test that fails puts a number out of its range. Assumes nothing.
 use native.Mathlib.Omega.{arith}
-use Rattle.tables.proofs.Header.{range-wrong, range-right}
+use Rattle.format.proofs.Header.{range-wrong, range-right}
 use borrow.Author.Needs.{needs}
 use Rattle.tables.proofs.range_wrong.Statement.{statement}
 use Rattle.tables.proofs.range_wrong.Tie as tie

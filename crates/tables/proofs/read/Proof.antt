@@ -1,10 +1,10 @@
 -- `tables::read` meets its contract. Assumes nothing.
 use native.Mathlib.Omega.{arith}
 use mathlib.Core.Path.{sym, ap, _∙_}
-use Rattle.tables.specs.declared.Table.{Table}
-use Rattle.tables.specs.declared.Reading.{Reading}
-use Rattle.tables.specs.declared.Verdict.the-variants.{Fine}
-use Rattle.tables.proofs.Readings.{header-of, read-refused, read-fine}
+use Rattle.format.specs.declared.Table.{Table}
+use Rattle.format.specs.declared.Reading.{Reading}
+use Rattle.format.specs.declared.Verdict.the-variants.{Fine}
+use Rattle.format.proofs.Readings.{header-of, read-refused, read-fine}
 use borrow.Author.Needs.{needs}
 use Rattle.tables.proofs.read.Statement.{statement}
 use Rattle.tables.proofs.read.Tie as tie
@@ -28,14 +28,18 @@ refused-requires : tie.Need-refused-requires
 refused-requires c κs = search needs
 
 returns : tie.Need-returns
-returns c = c .refused .ensures ∙ read-refused _ _ (c .before .before .before .check .ensures) (c .before .before .before .before .side-number .ensures) (c .before .enum-told2 .given .1)
+returns c =
+    let k = c .before .before .before in
+    c .refused .ensures ∙ read-refused _ _ (k .check .ensures) (k .before .side-number .ensures) (c .before .enum-told2 .given .1)
 
 taken-requires : tie.Need-taken-requires
 taken-requires c κs = let h = header-of _ _ (sym (c .before .before .check .ensures) ∙ c .enum-told .given .1) in (h .ranges .4, omega arith)
 
 returns-2 : tie.Need-returns-2
 unfolding fine
-returns-2 c = ap fine (c .taken .ensures) ∙ read-fine _ _ (c .before .before .before .check .ensures) (c .before .before .before .before .side-number .ensures) (c .before .enum-told .given .1)
+returns-2 c =
+    let k = c .before .before .before in
+    ap fine (c .taken .ensures) ∙ read-fine _ _ (k .check .ensures) (k .before .side-number .ensures) (c .before .enum-told .given .1)
 
 pub read-spec : {M : Type 1} → statement M
 read-spec =

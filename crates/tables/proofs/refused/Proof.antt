@@ -1,5 +1,5 @@
 -- `tables::refused` meets its contract: every field of the table is zero. Assumes nothing.
-use Rattle.tables.specs.Format.{noRows}
+use Rattle.format.specs.Format.{noRows}
 use borrow.Author.Needs.{needs}
 use Rattle.tables.proofs.refused.Statement.{statement}
 use Rattle.tables.proofs.refused.Tie as tie

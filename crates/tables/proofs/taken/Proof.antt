@@ -33,8 +33,11 @@ shared-slice-read-t16 c = search needs
 shared-slice-read-t18 : tie.Need-shared-slice-read-t18
 shared-slice-read-t18 c = search needs
 
+abbrev filled : tie.After-shared-slice-known5 → tie.After-fill
+filled c = c .before .before .before
+
 returns : tie.Need-returns
-returns c = rw (c .before .before .before .before .before .before .before .fill .ensures)
+returns c = rw (filled (c .before .before .before .before) .fill .ensures)
 
 pub taken-spec : {M : Type 1} → statement M
 taken-spec =

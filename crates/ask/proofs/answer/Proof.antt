@@ -1,0 +1,10 @@
+-- `ask::answer` meets its contract. (The file stands here so that a wrong field is refused at this function and not at a caller.) Assumes nothing.
+use borrow.Author.Needs.{needs}
+use Rattle.ask.proofs.answer.Statement.{statement}
+use Rattle.ask.proofs.answer.Tie as tie
+
+returns : tie.Need-returns
+returns c = search needs
+
+pub answer-spec : {M : Type 1} → statement M
+answer-spec = tie.close (tie.spec returns)

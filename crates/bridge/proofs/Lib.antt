@@ -1,3 +1,0 @@
-pub mod Ranges
-pub mod Refusals
-pub mod Unpacked

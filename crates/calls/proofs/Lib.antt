@@ -1,0 +1,17 @@
+pub mod Queues
+pub mod Silent
+pub mod Asking
+pub mod After
+pub mod Turns
+pub mod Accepted
+pub mod Refused
+pub mod Points
+pub mod Largest
+pub mod Ranges
+pub mod Numbers
+pub mod Unpacked
+pub mod Order
+pub mod Left
+pub mod Codes
+pub mod AskSays
+pub mod StepSays

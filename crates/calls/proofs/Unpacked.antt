@@ -1,0 +1,61 @@
+-- Each field can be taken back out of a packed number, and two results of an entry point that satisfy its contract are equal, bytes included.
+-- Assumes nothing.
+use Prim.Native.Nat.{ℕ, _/_, _%_, _^_, _<_}
+use native.Mathlib.Omega.{arith}
+use mathlib.Core.Path.{_≡_, sym, ap, _∙_, subst}
+use mathlib.Core.List.{List}
+use Rattle.format.specs.declared.Verdict.{Verdict}
+use Rattle.format.specs.Verdicts.{numberOf, sideOf, rowOf}
+use Rattle.rules.specs.declared.Conf.{Conf}
+use Rattle.calls.specs.declared.Built.{Built}
+use Rattle.calls.specs.declared.Asked.{Asked}
+use Rattle.calls.specs.Call.{Call}
+use Rattle.calls.specs.Ask.{askOf}
+use Rattle.calls.specs.Packed.{packedWith, packedBuilt, packedAsked, PackedBuild}
+use Rattle.calls.proofs.Largest.{one-result}
+use Rattle.calls.proofs.Ranges.{built-few, asked-few}
+use Rattle.calls.proofs.Numbers.{Small, built-small, asked-small}
+
+-- the digits of z are these: number, side and row of the verdict, and the last two places
+pub record Unpacked (z : ℕ) (v : Verdict) (fourth fifth : ℕ) : Type 0 where
+  pub number-is : z % 2 ^ 8 ≡ numberOf v
+  pub side-is : z / 2 ^ 8 % 2 ^ 8 ≡ sideOf v
+  pub row-is : z / 2 ^ 16 % 2 ^ 16 ≡ rowOf v
+  pub fourth-is : z / 2 ^ 32 % 2 ^ 16 ≡ fourth
+  pub fifth-is : z / 2 ^ 48 ≡ fifth
+
+unpack : (v : Verdict) (fourth fifth : ℕ) → Small v → fourth < 2 ^ 16 → Unpacked (packedWith v fourth fifth) v fourth fifth
+unpack v fourth fifth h f = record {
+  number-is = omega (arith, h .0, h .1, h .2);
+  side-is = omega (arith, h .0, h .1, h .2);
+  row-is = omega (arith, h .0, h .1, h .2);
+  fourth-is = omega (arith, h .0, h .1, h .2);
+  fifth-is = omega (arith, h .0, h .1, h .2);
+}
+
+abbrev pub UnpackedBuilt : ℕ → Built → Type 0
+UnpackedBuilt z b = Unpacked z (b .verdict) (b .kept) (b .rounds)
+
+abbrev pub UnpackedAsked : ℕ → Asked → Type 0
+UnpackedAsked z a = Unpacked z (a .verdict) (a .count) (a .lowest)
+
+module _ (k : Call) where
+  -- build's number, side, row, kept and rounds, out of what the entry point returns
+  pub build-fields : (before after : List ℕ) (z : ℕ) (p : PackedBuild k before after z) → UnpackedBuilt z (p .built)
+  build-fields before after z p =
+      let b : Built = p .built in
+      let small : Small (b .verdict) = built-small k before after b (p .says) in
+      subst (λ (y : ℕ). UnpackedBuilt y b) (sym (p .number-is))
+      (unpack (b .verdict) (b .kept) (b .rounds) small (omega (arith, built-few k before after b (p .says) .0)))
+
+  -- ask's number, side, row, count and lowest
+  pub ask-fields : (bytes : List ℕ) (c : Conf) → UnpackedAsked (packedAsked (askOf k bytes c)) (askOf k bytes c)
+  ask-fields bytes c =
+      let a : Asked = askOf k bytes c in
+      unpack (a .verdict) (a .count) (a .lowest) (asked-small k bytes c) (omega (arith, asked-few k bytes c .0))
+
+  -- there is one packed number, and one content of the lent buffer
+  pub one-packed : (before after₁ after₂ : List ℕ) (y z : ℕ) → PackedBuild k before after₁ y → PackedBuild k before after₂ z → (y ≡ z) × (after₁ ≡ after₂)
+  one-packed before after₁ after₂ y z p q =
+      let e = one-result k before after₁ after₂ (p .built) (q .built) (p .says) (q .says) in
+      (p .number-is ∙ ap packedBuilt (e .0) ∙ sym (q .number-is), e .1)

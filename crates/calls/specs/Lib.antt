@@ -1,0 +1,12 @@
+pub mod Call
+pub mod Refusals
+pub mod Build
+pub mod Ask
+pub mod Items
+pub mod Runs
+pub mod Begin
+pub mod Step
+pub mod Walks
+pub mod Points
+pub mod Packed
+pub mod Past

@@ -1,0 +1,4 @@
+pub mod Texts
+pub mod Whole
+pub mod OneHead
+pub mod Cases

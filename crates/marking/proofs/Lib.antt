@@ -1,0 +1,2 @@
+pub mod HitLaws
+pub mod MarkLaws

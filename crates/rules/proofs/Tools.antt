@@ -1,0 +1,3 @@
+pub mod RowsFor
+pub mod Decided
+pub mod Passage

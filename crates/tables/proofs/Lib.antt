@@ -1,6 +1,0 @@
-pub mod Verdicts
-pub mod Header
-pub mod Rows
-pub mod Readings
-pub mod Good
-pub mod Order

@@ -1,0 +1,36 @@
+-- Document 01's listing of pair A at bound 1, a line without moves, a refusal, a long number and a cut, computed from the
+-- definitions. Assumes nothing.
+use mathlib.Core.Path.{_≡_, refl}
+use mathlib.Core.List.{[], _∷_, _++_}
+use Rattle.texts.specs.Text.{ascii, decimal, firstLine, confLine, refusalLine}
+use Rattle.texts.specs.Cut.{cutOf}
+
+-- a text is its bytes
+pub bytes-of : ascii " of=\n" ≡ 32 ∷ 111 ∷ 102 ∷ 61 ∷ 10 ∷ []
+bytes-of = refl
+
+-- "Bound 1 prints, whole": the sets are those of case 8
+pub pair-A :
+    firstLine 3 8 2 1 ++ confLine 0 0 0 257 ++ confLine 1 0 1 3 ++ confLine 1 1 0 1
+    ≡ ascii "converter kept=3 of=8 rounds=2 bound=1\n0 0 0 moves 0.0 1.0\n1 0 1 moves 0.0 0.1\n1 1 0 moves 0.0\n"
+unfolding firstLine confLine
+pair-A = refl
+
+-- "With no moves the line ends after `moves`"
+pub without-moves : confLine 1 0 0 0 ≡ ascii "1 0 0 moves\n"
+unfolding confLine
+without-moves = refl
+
+pub refusal-11 : refusalLine 11 0 0 ≡ ascii "refused 11 side 0 row 0\n"
+unfolding refusalLine
+refusal-11 = refl
+
+-- the most configurations
+pub most : decimal 4096 ≡ ascii "4096"
+unfolding decimal
+most = refl
+
+-- a single byte after the writer's table is the bound, and the reader's table is empty
+pub one-byte-more : cutOf (9 ∷ 0 ∷ 1 ∷ 7 ∷ 5 ∷ []) ≡ record { writer = 4; reader = 4; bound = 5 }
+unfolding cutOf
+one-byte-more = refl

@@ -1,0 +1,53 @@
+// The builder on cases 1 to 7 of document 01 and on its refusals, into a buffer that is longer than N: its tail has to stand.
+use worked::A_READER;
+use worked::A_WRITER;
+use worked::C_READER;
+use worked::C_WRITER;
+
+// One state a side, no rows.
+const BARE_WRITER: [u8; 9] = [1, 0, 6, 1, 1, 0, 0, 1, 0];
+
+const BARE_READER: [u8; 9] = [1, 0, 6, 2, 1, 0, 0, 1, 0];
+
+fn of(name: &[u8], writer: &[u8], reader: &[u8], bound: u64) {
+    let mut buffer = [7u8; 20];
+    let b = build::build(writer, reader, bound, &mut buffer);
+    let v = b.verdict;
+    show::verdict(name, b": accepted,", v);
+    let numbers = [b.kept, b.rounds];
+    show::line(b" kept % rounds %, bytes", &numbers);
+    show::bytes(&buffer);
+    show::text(b"\n");
+}
+
+fn of_a(writer: &[u8], reader: &[u8]) {
+    of(b"case 1, A at 0", writer, reader, 0);
+    of(b"case 2, A at 1", writer, reader, 1);
+    of(b"case 3, A at 2", writer, reader, 2);
+}
+
+fn of_c(writer: &[u8], reader: &[u8]) {
+    of(b"case 4, C at 1", writer, reader, 1);
+    of(b"case 5, C at 2", writer, reader, 2);
+}
+
+fn of_bare(writer: &[u8], reader: &[u8]) {
+    of(b"case 6, bare at 0", writer, reader, 0);
+    of(b"case 7, bare at 15", writer, reader, 15);
+}
+
+fn refusals(writer: &[u8], reader: &[u8]) {
+    of(b"the reader as writer", reader, writer, 1);
+    of(b"the writer twice", writer, writer, 1);
+    of(b"bound 16", writer, reader, 16);
+    of(b"bound 257", writer, reader, 257);
+    of(b"20 bytes for 24", writer, reader, 5);
+}
+
+pub fn run() {
+    show::text(b"---- build\n");
+    of_a(&A_WRITER, &A_READER);
+    of_c(&C_WRITER, &C_READER);
+    of_bare(&BARE_WRITER, &BARE_READER);
+    refusals(&A_WRITER, &A_READER);
+}

@@ -50,7 +50,8 @@ pub extern "C" fn bridge_ask(
     reader_state: u64,
     level: u64,
 ) -> u64
-    ensures { λ z. ⌜ z ≡ packedAsked (askOf (callOf (now (writer .entry)) (now (reader .entry)) bound) (now (kept .entry)) (confWith «writer_state» «reader_state» level)) ⌝ }
+    ensures { λ z. ⌜ z ≡ packedAsked
+        (askOf (callOf (now (writer .entry)) (now (reader .entry)) bound) (now (kept .entry)) (confWith «writer_state» «reader_state» level)) ⌝ }
 {
     let a = ask(
         writer,
@@ -75,7 +76,8 @@ pub extern "C" fn bridge_ask_set(
     reader_state: u64,
     level: u64,
 ) -> u64
-    ensures { λ z. ⌜ z ≡ askOf (callOf (now (writer .entry)) (now (reader .entry)) bound) (now (kept .entry)) (confWith «writer_state» «reader_state» level) .set ⌝ }
+    ensures { λ z. ⌜ z ≡ askOf (callOf (now (writer .entry)) (now (reader .entry)) bound) (now (kept .entry))
+        (confWith «writer_state» «reader_state» level) .set ⌝ }
 {
     ask(
         writer,

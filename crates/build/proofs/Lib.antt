@@ -1,4 +1,5 @@
-pub mod RoundLaws
 pub mod RoundEnd
 pub mod AllRounds
+pub mod Counting
+pub mod Serving
 pub mod Building

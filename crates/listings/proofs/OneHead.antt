@@ -2,7 +2,6 @@
 use Prim.Native.Nat.{ℕ}
 use mathlib.Core.Path.{_≡_, sym, ap}
 use mathlib.Core.List.{List}
-use Rattle.calls.specs.declared.Built.{Built}
 use Rattle.calls.specs.Call.{Call, pairOf}
 use Rattle.calls.proofs.Largest.{one-result}
 use Rattle.texts.proofs.Written.{only-one}

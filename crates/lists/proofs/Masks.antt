@@ -1,14 +1,17 @@
--- The digits of a mask: of `&`, `|`, `^` and `!`, of shifts, and of the mask of all numbers below a bound. Assumes nothing.
+-- The digits of a mask: of `&`, `|`, `^` and `!`, of shifts, of the masks of all numbers below a bound and of one number, and the lowest one.
+-- Assumes nothing.
 use mathlib.Core.Path.{_≡_, refl, sym, ap, _∙_}
 use mathlib.Core.Bool.{Bool, true, false, not, _&&_, _||_, true≢false}
 use Prim.Native.Nat.{ℕ, zero, suc, _+_, _-_, _*_, _/_, _%_, _^_, _≤_, _<_, min, max}
 use native.Mathlib.Nat.{div-eq-of-lt, div-one, lt-of-lt-of-le, add-comm, mul-div-cancel, mul-assoc, pow-suc, mul-mod-left, mod-eq-of-lt}
 use native.Mathlib.Omega.{arith}
+use native.Mathlib.Decide.{ℕ-discrete}
 use lib.Arith.{digits-mod}
 use lib.Dec.{eqb, leb, ltb}
 use lib.Bits.{bitAnd, bitOr, bitXor, differ, and-step, or-step, xor-step, and-shr, or-shr, xor-shr, and-mask, and-comm, xor-add-and}
 use lib.Pow.{pow-pos, pow-mono, pow-add, shr-shr, ones-split, ones-lt, high}
-use borrow.Author.Tests.{lt-ltb, le-ltb, le-leb, lt-leb, eqb-true, eq-eqb}
+use lib.Count.{trailingZeros, under}
+use borrow.Author.Tests.{lt-ltb, le-ltb, le-leb, lt-leb, eqb-true, eq-eqb, ne-eqb}
 use mathlib.Core.Logic.{_↔_, ⊎-elim}
 use Rattle.lists.specs.Masks.{hasBit}
 use Rattle.lists.proofs.Rest.{le-or-lt}
@@ -215,3 +218,46 @@ same-bits (suc w) a b h k e =
 
 pub bit-zero : (l : ℕ) → hasBit 0 l ≡ false
 bit-zero l = bit-above 0 0 l (omega arith) (omega arith)
+
+-- ---- the mask of one number
+
+one-has : (k : ℕ) → hasBit (1 * 2 ^ k) k ≡ true
+unfolding hasBit
+one-has k =
+    let e : k - k ≡ 0 = omega arith in
+    bit-shl 1 k k ∙ rw (le-leb k k (omega arith), e)
+
+one-lacks : (k l : ℕ) → (l ≡ k → ⊥) → hasBit (1 * 2 ^ k) l ≡ false
+one-lacks k l n = bit-shl 1 k l ∙ ⊎-elim above below (le-or-lt k l)
+  where
+    above : k ≤ l → (leb k l && hasBit 1 (l - k)) ≡ false
+    above h = rw (le-leb k l h) (bit-above 1 1 (l - k) (omega arith) (omega arith))
+
+    below : l < k → (leb k l && hasBit 1 (l - k)) ≡ false
+    below h = rw (lt-leb k l h)
+
+pub bit-one : (k l : ℕ) → hasBit (1 * 2 ^ k) l ≡ eqb l k
+bit-one k l = pick (ℕ-discrete l k)
+  where
+    pick : Dec (l ≡ k) → hasBit (1 * 2 ^ k) l ≡ eqb l k
+    pick (yes e) = ap (hasBit (1 * 2 ^ k)) e ∙ one-has k ∙ sym (eq-eqb l k e)
+    pick (no n) = one-lacks k l n ∙ sym (ne-eqb l k n)
+
+-- ---- the lowest digit that is 1
+
+-- of m, from that of m / 2
+above-lowest : (w m t d : ℕ) → 0 < m → m % 2 ≡ d → (0 < m / 2 → (t < w) × (hasBit (m / 2) t ≡ true)) → (under d t < suc w) × (hasBit m (under d t) ≡ true)
+above-lowest w m t zero h e rest =
+    let r = rest (omega arith) in
+    let n : t + 1 ≡ suc t = omega arith in
+    (omega (arith, r .0), ap (hasBit m) (sym n) ∙ sym (bit-shr m 1 t) ∙ r .1)
+above-lowest w m t (suc d) h e rest =
+    let one : m % 2 ≡ 1 = omega arith in
+    (omega arith, bit-is m 0 .1 (ap (λ (n : ℕ). n % 2) (div-one m) ∙ one))
+
+pub lowest-bit : (w m : ℕ) → 0 < m → m < 2 ^ w → (trailingZeros w m < w) × (hasBit m (trailingZeros w m) ≡ true)
+unfolding trailingZeros
+lowest-bit zero m h k = absurd (omega arith)
+lowest-bit (suc w) m h k =
+    let p : 2 ^ suc w ≡ 2 ^ w * 2 = pow-suc 2 w in
+    above-lowest w m (trailingZeros w (m / 2)) (m % 2) h refl (λ z. lowest-bit w (m / 2) z (omega arith))

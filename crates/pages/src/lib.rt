@@ -32,7 +32,8 @@ fn all_places(writer: &[u8], reader: &[u8], bound: u64) -> u64
 
 // Builds into the lent bytes, and writes the first line of the listing, or the line of a refusal.
 pub fn head(out: &mut [u8; 512], writer: &[u8], reader: &[u8], bound: u64, kept: &mut [u8]) -> usize
-    ensures { λ r. ⌜ HeadSays (callOf (now (writer .entry)) (now (reader .entry)) bound) (now (kept .entry)) (now (kept .exit)) (now (out .entry)) r (now (out .exit)) ⌝ }
+    ensures { λ r. ⌜ HeadSays (callOf (now (writer .entry)) (now (reader .entry)) bound) (now (kept .entry)) (now (kept .exit))
+        (now (out .entry)) r (now (out .exit)) ⌝ }
 {
     let b = build(writer, reader, bound, kept);
     let v = b.verdict;
@@ -54,7 +55,8 @@ fn spot_line(
     readers: u64,
 ) -> usize
     requires { ⌜ (0 < readers) × ((bound ≤ 15) × (readers ≡ pairOf (callOf (now writer) (now reader) bound) .reader .states)) ⌝ }
-    ensures { λ r. ⌜ Written (textAt (callOf (now (writer .entry)) (now (reader .entry)) bound) (now (kept .entry)) p) (now (out .entry)) r (now (out .exit)) ⌝ }
+    ensures { λ r. ⌜ Written (textAt (callOf (now (writer .entry)) (now (reader .entry)) bound) (now (kept .entry)) p)
+        (now (out .entry)) r (now (out .exit)) ⌝ }
 {
     let levels = bound + 1;
     let states = p / levels;
@@ -78,7 +80,8 @@ pub fn place_line(
     kept: &[u8],
     p: usize,
 ) -> usize
-    ensures { λ r. ⌜ Written (placeText (callOf (now (writer .entry)) (now (reader .entry)) bound) (now (kept .entry)) p) (now (out .entry)) r (now (out .exit)) ⌝ }
+    ensures { λ r. ⌜ Written (placeText (callOf (now (writer .entry)) (now (reader .entry)) bound) (now (kept .entry)) p)
+        (now (out .entry)) r (now (out .exit)) ⌝ }
 {
     if kept.len() <= p {
         return 0;

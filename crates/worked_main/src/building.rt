@@ -9,6 +9,42 @@ const BARE_WRITER: [u8; 9] = [1, 0, 6, 1, 1, 0, 0, 1, 0];
 
 const BARE_READER: [u8; 9] = [1, 0, 6, 2, 1, 0, 0, 1, 0];
 
+// Two ways from the start to the finish, by letter 0 or letter 1, and a reader that waits: all four configurations are kept. A builder that
+// keeps a single path loses one.
+const WAYS_WRITER: [u8; 29] = [
+    1,
+    0,
+    26,
+    1,
+    4,
+    0,
+    3,
+    2,
+    4,
+    0,
+    0,
+    0,
+    0,
+    1,
+    0,
+    1,
+    0,
+    0,
+    2,
+    1,
+    0,
+    0,
+    0,
+    3,
+    2,
+    0,
+    0,
+    0,
+    3,
+];
+
+const WAYS_READER: [u8; 14] = [1, 0, 11, 2, 1, 0, 0, 1, 1, 0, 0, 0, 0, 0];
+
 fn of(name: &[u8], writer: &[u8], reader: &[u8], bound: u64) {
     let mut buffer = [7u8; 20];
     let b = build::build(writer, reader, bound, &mut buffer);
@@ -49,5 +85,6 @@ pub fn run() {
     of_a(&A_WRITER, &A_READER);
     of_c(&C_WRITER, &C_READER);
     of_bare(&BARE_WRITER, &BARE_READER);
+    of(b"two ways at 0", &WAYS_WRITER, &WAYS_READER, 0);
     refusals(&A_WRITER, &A_READER);
 }

@@ -1,8 +1,8 @@
 -- `pages::place_line` meets its contract. Assumes nothing.
 use native.Mathlib.Omega.{arith}
-use mathlib.Core.Path.{_≡_, sym, ap, _∙_}
+use mathlib.Core.Path.{sym, ap, _∙_}
 use Rattle.rules.specs.declared.Pair.{Pair}
-use Rattle.calls.specs.Call.{Call, callOf, pairOf}
+use Rattle.calls.specs.Call.{Call, callOf}
 use Rattle.calls.proofs.Silent.{enter-good, enter-bound}
 use Rattle.entry.proofs.Entering.{entry-fine}
 use Rattle.listings.proofs.Texts.{nothing, instead, place-past, place-out, place-kept, place-refused}

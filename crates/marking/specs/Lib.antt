@@ -1,2 +1,0 @@
-pub mod Hits
-pub mod Sweeps

@@ -1,120 +1,214 @@
-//! The proved builder against the same algorithm in safe Rust, in one run:
-//! `cargo run --profile fast --offline -p bench`. Not part of the gate.
+//! The proved builder against four builders in safe Rust, in one run:
+//! `rust/with run --profile fast -p bench`. Not part of the gate.
 //!
-//! Every input is built by both first, and they have to agree. Then the two
-//! take turns, and the median of the repetitions of each is compared. Times
-//! are the thread's own processor time, so that other work on the machine
-//! counts little. A ratio below 1 says that the proved one is faster.
+//! - ours: the proved builder, by its entry point
+//! - same: the proved code function by function, with the same memory
+//! - tuned: the same algorithm and memory, tuned
+//! - one: the same memory, one configuration at a time
+//! - heap: configurations, moves and witnesses on the heap, kept across rounds
+//!
+//! Every input is built by all first, and they have to agree. Then they take
+//! turns, and the median of the turns of each is compared. Times are the
+//! thread's own processor time, so that other work on the machine counts
+//! little. A ratio below 1 says that the proved one is faster.
 
 mod clock;
-mod same;
 
+use bench::{heap, one, same, tuned};
 use bridge::{packed, Configuration};
-use inputs::{chains, large_pair, many_rounds, small_pair, Pair, Random};
+use inputs::{chains, damaged_pair, large_pair, long_way, small_pair};
+use inputs::{ManyRounds, Pair, Random, MANY_ROUNDS};
 use std::hint::black_box;
 use std::time::Duration;
 
-/// Repetitions of each side.
-const REPETITIONS: usize = 9;
+/// Turns of each builder where a build is quick, and where it takes seconds.
+const TURNS: usize = 9;
+const FEW_TURNS: usize = 3;
+
+/// A turn builds its pairs again until this much time has gone.
+const TURN: Duration = Duration::from_millis(20);
+
+type Builder = fn(&[u8], &[u8], u64, &mut [u8]) -> u64;
+
+const BUILDERS: [(&str, Builder); 5] = [
+    ("ours", packed::build),
+    ("same", same::build),
+    ("tuned", tuned::build),
+    ("one", one::build),
+    ("heap", heap::build),
+];
 
 fn main() {
     // A last word picks one group: `bench dense`.
     let only = std::env::args().nth(1).unwrap_or_default();
-    for (name, pairs, calls) in groups() {
-        if name.contains(&only) {
-            compare_builds(&name, &pairs, calls);
-        }
+    let mut picked = groups();
+    picked.retain(|group| group.name.contains(&only));
+    if !picked.is_empty() {
+        print_head();
     }
+    picked.iter().for_each(compare_builds);
     if "ask".contains(&only) {
         compare_asks();
     }
 }
 
-/// Groups of pairs, each with how often one repetition builds them.
-fn groups() -> Vec<(String, Vec<Pair>, usize)> {
-    let mut groups = Vec::new();
-    for letters in [8, 2] {
-        let mut random = Random::new(1000 + u64::from(letters));
-        let pairs = (0..20).map(|_| large_pair(&mut random, letters)).collect();
-        groups.push((format!("20 dense pairs, {letters} letters"), pairs, 4));
-    }
-    groups.push(("chains, 16 by 16 states".to_string(), chains(), 1));
-    for (pair, rounds) in many_rounds() {
-        if [723, 310, 3601].contains(&rounds) {
-            let calls = if rounds == 310 { 10 } else { 1 };
-            groups.push((format!("many rounds, {rounds}"), vec![pair], calls));
-        }
-    }
-    let mut random = Random::new(1);
-    let pairs = (0..1000).map(|_| small_pair(&mut random)).collect();
-    groups.push(("1,000 small pairs".to_string(), pairs, 4));
+struct Group {
+    name: String,
+    /// Where its pairs come from.
+    source: String,
+    pairs: Vec<Pair>,
+    turns: usize,
+}
+
+fn groups() -> Vec<Group> {
+    let mut groups = vec![
+        random_group("20 dense pairs, 8 letters", 1008, 20, |r| large_pair(r, 8)),
+        random_group("20 dense pairs, 2 letters", 1002, 20, |r| large_pair(r, 2)),
+        random_group("1,000 small pairs", 1, 1000, small_pair),
+        random_group("1,000 small pairs, any bound", 2, 1000, any_bound),
+        random_group("1,000 damaged pairs", 3, 1000, damaged_pair),
+        fixed_group("a bare pair: one state a side, no rows", 0),
+        fixed_group("the same refused with 9: both tables are read", 16),
+        Group {
+            name: "chains, 16 by 16 states".to_string(),
+            source: "chains".to_string(),
+            pairs: chains(),
+            turns: TURNS,
+        },
+        Group {
+            name: "2 long ways".to_string(),
+            source: "long_way".to_string(),
+            pairs: [false, true].map(|upward| long_way(15, upward)).to_vec(),
+            turns: TURNS,
+        },
+    ];
+    let many = MANY_ROUNDS.iter().filter(|found| found.rounds > 300);
+    groups.extend(many.map(many_rounds_group));
     groups
 }
 
-/// Both have to agree on number, bytes and what stands past N.
-fn agree(pair: &Pair) {
-    let mut ours = [7; 4100];
-    let (writer, reader, bound) = (&pair.writer, &pair.reader, pair.bound);
-    let proved = packed::build(writer, reader, bound, &mut ours);
-    for builder in [same::build, same::build_straight] {
-        let mut theirs = [7; 4100];
-        let plain = builder(writer, reader, bound, &mut theirs);
-        assert_eq!(proved, plain, "{}", inputs::hex_pair(pair));
-        assert!(ours == theirs, "{}", inputs::hex_pair(pair));
+fn random_group(name: &str, seed: u64, count: usize, pair: fn(&mut Random) -> Pair) -> Group {
+    let mut random = Random::new(seed);
+    Group {
+        name: name.to_string(),
+        source: format!("seed {seed}"),
+        pairs: (0..count).map(|_| pair(&mut random)).collect(),
+        turns: TURNS,
     }
 }
 
-type Builder = fn(&[u8], &[u8], u64, &mut [u8]) -> u64;
+/// What a build costs before it looks at a row.
+fn fixed_group(name: &str, bound: u64) -> Group {
+    let side = |role| vec![1, 0, 6, role, 1, 0, 0, 1, 0];
+    Group {
+        name: name.to_string(),
+        source: "fixed_group".to_string(),
+        pairs: vec![Pair {
+            writer: side(1),
+            reader: side(2),
+            bound,
+        }],
+        turns: TURNS,
+    }
+}
 
-fn time_builds(builder: Builder, pairs: &[Pair], calls: usize) -> Duration {
+fn any_bound(random: &mut Random) -> Pair {
+    let pair = small_pair(random);
+    Pair {
+        bound: random.below(16),
+        ..pair
+    }
+}
+
+fn many_rounds_group(found: &ManyRounds) -> Group {
+    let pair = Pair {
+        writer: found.writer.to_vec(),
+        reader: found.reader.to_vec(),
+        bound: found.bound,
+    };
+    Group {
+        name: format!("{} rounds, {}", found.rounds, found.name),
+        source: found.name.to_string(),
+        pairs: vec![pair],
+        turns: if found.rounds > 400 { FEW_TURNS } else { TURNS },
+    }
+}
+
+/// What a builder returns and leaves in the lent bytes, past N too.
+fn built(builder: Builder, pair: &Pair) -> (u64, [u8; 4100]) {
+    let mut buffer = [7; 4100];
+    let number = builder(&pair.writer, &pair.reader, pair.bound, &mut buffer);
+    (number, buffer)
+}
+
+/// All have to agree on number, kept, rounds and bytes.
+fn agree(group: &Group) {
+    for (i, pair) in group.pairs.iter().enumerate() {
+        let (number, bytes) = built(packed::build, pair);
+        for (name, builder) in &BUILDERS[1..] {
+            let (other, left) = built(*builder, pair);
+            assert!(
+                number == other && bytes == left,
+                "ours and {name} differ on pair {i} of {} ({}): {number:#x} and {other:#x}\n{}",
+                group.name,
+                group.source,
+                inputs::hex_pair(pair)
+            );
+        }
+    }
+}
+
+/// Microseconds a call.
+fn time_builds(builder: Builder, pairs: &[Pair]) -> f64 {
     let mut buffer = [0; 4096];
+    let mut calls = 0;
     let begun = clock::now();
-    for _ in 0..calls {
+    loop {
         for pair in pairs {
             let (writer, reader) = (black_box(&pair.writer), black_box(&pair.reader));
             black_box(builder(writer, reader, pair.bound, &mut buffer));
         }
+        calls += pairs.len();
+        let taken = clock::now() - begun;
+        if taken >= TURN {
+            return taken.as_secs_f64() * 1e6 / calls as f64;
+        }
     }
-    clock::now() - begun
 }
 
-fn compare_builds(name: &str, pairs: &[Pair], calls: usize) {
-    pairs.iter().for_each(agree);
-    let proved = || time_builds(packed::build, pairs, calls);
-    let plain = || time_builds(same::build, pairs, calls);
-    let straight = || time_builds(same::build_straight, pairs, calls);
-    report(name, calls * pairs.len(), proved, plain, straight);
-}
-
-/// The three in turn, and their medians.
-fn report(
-    name: &str,
-    calls: usize,
-    proved: impl Fn() -> Duration,
-    plain: impl Fn() -> Duration,
-    straight: impl Fn() -> Duration,
-) {
-    let mut times = [Vec::new(), Vec::new(), Vec::new()];
-    for _ in 0..REPETITIONS {
-        times[0].push(proved());
-        times[1].push(plain());
-        times[2].push(straight());
+fn compare_builds(group: &Group) {
+    agree(group);
+    let mut times = BUILDERS.map(|_| Vec::new());
+    for _ in 0..group.turns {
+        for (times, (_, builder)) in times.iter_mut().zip(BUILDERS) {
+            times.push(time_builds(builder, &group.pairs));
+        }
     }
-    let [proved, plain, straight] = times.map(|list| median(list) * 1_000_000 / calls as u32);
-    let ratio = |other: Duration| proved.as_secs_f64() / other.as_secs_f64();
-    println!(
-        "{name}: ratio {:.2} (proved {:.2} us a call, {:.0} calls a second; Rust {:.2} us); against a quicker reading {:.2}",
-        ratio(plain),
-        proved.as_secs_f64(),
-        1e6 / proved.as_secs_f64(),
-        plain.as_secs_f64(),
-        ratio(straight)
-    );
+    print_row(&group.name, times.map(median));
 }
 
-fn median(mut times: Vec<Duration>) -> Duration {
-    times.sort();
-    times[times.len() / 2]
+fn print_head() {
+    let names = BUILDERS.map(|(name, _)| name);
+    let times = names.map(|name| format!("{name}, us"));
+    let ratios = names[1..].iter().map(|name| format!("ours/{name}"));
+    let columns: Vec<String> = times.into_iter().chain(ratios).collect();
+    println!("| Input | {} |", columns.join(" | "));
+    println!("|---|{}", "---|".repeat(columns.len()));
+}
+
+fn print_row(name: &str, times: [f64; BUILDERS.len()]) {
+    let ratios = times[1..].iter().map(|time| times[0] / time);
+    let columns: Vec<String> = times
+        .into_iter()
+        .chain(ratios)
+        .map(|figure| format!("{figure:.2}"))
+        .collect();
+    println!("| {name} | {} |", columns.join(" | "));
+}
+
+fn median<T: PartialOrd + Copy>(mut list: Vec<T>) -> T {
+    list.sort_by(|a, b| a.partial_cmp(b).expect("times have an order"));
+    list[list.len() / 2]
 }
 
 /// A pair, its kept bytes and a configuration.
@@ -143,13 +237,13 @@ fn questions(pairs: Vec<Pair>) -> Vec<Question> {
 fn plain_set(q: &Question) -> u64 {
     let (pair, kept, at) = q;
     let tables = (&pair.writer[..], &pair.reader[..], pair.bound);
-    same::ask_set(tables, kept, (at.writer, at.reader, at.level))
+    one::ask_set(tables, kept, (at.writer, at.reader, at.level))
 }
 
 fn straight_set(q: &Question) -> u64 {
     let (pair, kept, at) = q;
     let tables = (&pair.writer[..], &pair.reader[..], pair.bound);
-    same::ask_set_straight(tables, kept, (at.writer, at.reader, at.level))
+    one::ask_set_straight(tables, kept, (at.writer, at.reader, at.level))
 }
 
 fn proved_set(q: &Question) -> u64 {
@@ -165,6 +259,32 @@ fn time_asks(ask: fn(&Question) -> u64, list: &[Question], calls: usize) -> Dura
         }
     }
     clock::now() - begun
+}
+
+/// The three in turn, and their medians.
+fn report(
+    name: &str,
+    calls: usize,
+    proved: impl Fn() -> Duration,
+    plain: impl Fn() -> Duration,
+    straight: impl Fn() -> Duration,
+) {
+    let mut times = [Vec::new(), Vec::new(), Vec::new()];
+    for _ in 0..TURNS {
+        times[0].push(proved());
+        times[1].push(plain());
+        times[2].push(straight());
+    }
+    let [proved, plain, straight] = times.map(|list| median(list) * 1_000_000 / calls as u32);
+    let ratio = |other: Duration| proved.as_secs_f64() / other.as_secs_f64();
+    println!(
+        "{name}: ratio {:.2} (proved {:.2} us a call, {:.0} calls a second; Rust {:.2} us); against a quicker reading {:.2}",
+        ratio(plain),
+        proved.as_secs_f64(),
+        1e6 / proved.as_secs_f64(),
+        plain.as_secs_f64(),
+        ratio(straight)
+    );
 }
 
 fn compare_asks() {

@@ -1,0 +1,161 @@
+//! The four builders in Rust against the second builder: number, side, row,
+//! kept, rounds and every byte, past N too. A difference is printed with the
+//! pair as bytes.
+
+use bench::{heap, one, same, tuned};
+use inputs::*;
+use std::collections::BTreeMap;
+
+type Builder = fn(&[u8], &[u8], u64, &mut [u8]) -> u64;
+
+const QUICK: [(&str, Builder); 3] = [
+    ("same", same::build),
+    ("tuned", tuned::build),
+    ("heap", heap::build),
+];
+
+const ALL: [(&str, Builder); 5] = [
+    ("same", same::build),
+    ("tuned", tuned::build),
+    ("one", one::build),
+    ("one, read straight", one::build_straight),
+    ("heap", heap::build),
+];
+
+/// How often each number was met.
+#[derive(Default)]
+struct Met(BTreeMap<u64, u64>);
+
+impl Met {
+    /// All builders over a copy of `before`.
+    fn build(&mut self, pair: &Pair, before: &[u8]) {
+        let Pair {
+            writer,
+            reader,
+            bound,
+        } = pair;
+        let mut expected = before.to_vec();
+        let built = second::build(writer, reader, *bound, &mut expected);
+        for (name, builder) in ALL {
+            let mut left = before.to_vec();
+            let number = builder(writer, reader, *bound, &mut left);
+            assert!(
+                number == built.packed() && left == expected,
+                "{name} differs on\n{}\nbuffer of {} bytes\n{name}: {number:#x}, bytes {}\nsecond: {:#x}, bytes {}",
+                hex_pair(pair),
+                before.len(),
+                hex(&left),
+                built.packed(),
+                hex(&expected)
+            );
+        }
+        *self.0.entry(built.number).or_default() += 1;
+    }
+
+    fn print(&self, title: &str) {
+        let builds: u64 = self.0.values().sum();
+        println!("{title}: {builds} builds are equal, by number {:?}", self.0);
+    }
+}
+
+/// A generator whose seed is printed.
+fn seeded(seed: u64) -> Random {
+    println!("seed {seed}");
+    Random::new(seed)
+}
+
+/// The pair with another bound.
+fn at(bound: u64, pair: Pair) -> Pair {
+    Pair { bound, ..pair }
+}
+
+/// The three layouts of masks are those of bounds 0, 1 to 7 and 8 to 15.
+#[test]
+fn small_pairs_at_every_bound() {
+    let mut met = Met::default();
+    for bound in 0..16 {
+        let mut random = seeded(20261200 + bound);
+        for _ in 0..200 {
+            let pair = at(bound, small_pair(&mut random));
+            let more = random.below(4) as usize;
+            met.build(&pair, &patterned(pair.count() + more));
+        }
+    }
+    met.print("small pairs at every bound");
+    assert!(met.0[&0] >= 1_000 && met.0[&11] >= 500);
+}
+
+#[test]
+fn large_pairs_at_every_bound() {
+    let mut met = Met::default();
+    for bound in 0..16 {
+        let mut random = seeded(20261300 + bound);
+        let letters = if bound % 2 == 0 { [8, 2] } else { [4, 1] };
+        for letters in letters {
+            let pair = at(bound, large_pair(&mut random, letters));
+            met.build(&pair, &patterned(4_100));
+        }
+    }
+    met.print("large pairs at every bound");
+}
+
+#[test]
+fn clocks_at_every_bound() {
+    let mut met = Met::default();
+    for bound in 0..16 {
+        met.build(&clocks(4, 3, bound), &patterned(4_096));
+        met.build(&clocks(3, 4, bound), &patterned(4_096));
+    }
+    met.print("clocks at every bound");
+}
+
+#[test]
+fn refused_pairs() {
+    let mut met = Met::default();
+    let mut random = seeded(20261400);
+    for _ in 0..3_000 {
+        met.build(&damaged_pair(&mut random), &patterned(100));
+    }
+    let small = |call: &Call| call.pair.bound != 15 || call.buffer.len() < call.pair.count();
+    for call in limits().iter().filter(|call| small(call)) {
+        met.build(&call.pair, &call.buffer);
+    }
+    met.print("refused pairs");
+    for number in 1..=11 {
+        assert!(met.0[&number] >= 10, "refusal {number}");
+    }
+}
+
+#[test]
+fn chains_and_long_ways() {
+    let mut met = Met::default();
+    for pair in chains().into_iter().step_by(5) {
+        met.build(&pair, &patterned(4_096));
+    }
+    for (bound, upward) in [(1, false), (3, true), (9, false)] {
+        met.build(&long_way(bound, upward), &patterned(4_096));
+    }
+    met.print("chains and long ways");
+}
+
+/// The second builder and the one-by-one builder take seconds for these; what
+/// the second one measured is stored with them.
+#[test]
+fn many_rounds_as_measured() {
+    for (pair, rounds) in many_rounds() {
+        let built = QUICK.map(|(name, builder)| {
+            let mut bytes = patterned(4_100);
+            let number = builder(&pair.writer, &pair.reader, pair.bound, &mut bytes);
+            (name, number, bytes)
+        });
+        let (_, number, bytes) = &built[0];
+        for (name, other, left) in &built {
+            assert!(
+                other >> 48 == rounds && other == number && left == bytes,
+                "{name} differs on\n{}",
+                hex_pair(&pair)
+            );
+        }
+        println!("{rounds} rounds: same, tuned and heap are equal");
+    }
+}

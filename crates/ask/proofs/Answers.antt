@@ -22,7 +22,7 @@ use Rattle.entry.specs.declared.Entry.{Entry}
 use Rattle.entry.specs.Enter.{Enters}
 use Rattle.entry.proofs.Entering.{entry-refuses, entry-goes-on}
 use Rattle.numbers.specs.Frames.{frameOf, placeOf}
-use Rattle.outcomes.specs.declared.View.{View}
+use Rattle.outcomes.specs.declared.Spot.{Spot}
 use Rattle.outcomes.specs.Outcomes.{keptOn, Viewed, allowsMove}
 use Rattle.outcomes.proofs.Sides.{out-test, view-test}
 
@@ -33,7 +33,7 @@ module _ (X : Pair) (k : List ℕ) (c : Conf) (able : Askable X k c) {t : Bool} 
   unfolding moveSet
   moves-out off = sym (number-off (isAllowed X k c) 64 (λ m h. sym (out-test X k c able e off (m / 8) (m % 8))))
 
-  pub moves-kept : t ≡ true → {v : View} → Viewed X c v → number (allowsMove k (v .writer) (v .reader) (v .spot)) 64 ≡ moveSet X k c
+  pub moves-kept : t ≡ true → {w r : List ℕ} {s : Spot} → Viewed X c w r s → number (allowsMove k w r s) 64 ≡ moveSet X k c
   unfolding moveSet
   moves-kept on seen = number-same _ _ 64 (λ m h. view-test X k c able e on seen (m / 8) (m % 8))
 

@@ -32,10 +32,16 @@ fn pack_verdict(verdict: Verdict, fourth: u64, fifth: u64) -> u64
 }
 
 #[no_mangle]
-pub extern "C" fn bridge_build(writer: &[u8], reader: &[u8], bound: u64, buffer: &mut [u8]) -> u64
-    ensures { λ z. ⌜ PackedBuild (callOf (now (writer .entry)) (now (reader .entry)) bound) (now (buffer .entry)) (now (buffer .exit)) z ⌝ }
+pub extern "C" fn bridge_build(
+    writer: &[u8],
+    reader: &[u8],
+    bound: u64,
+    rule: u64,
+    buffer: &mut [u8],
+) -> u64
+    ensures { λ z. ⌜ PackedBuild (callOf (now (writer .entry)) (now (reader .entry)) bound rule) (now (buffer .entry)) (now (buffer .exit)) z ⌝ }
 {
-    let b = build(writer, reader, bound, buffer);
+    let b = build(writer, reader, bound, rule, buffer);
     let v = b.verdict;
     pack_verdict(v, b.kept, b.rounds)
 }
@@ -45,18 +51,20 @@ pub extern "C" fn bridge_ask(
     writer: &[u8],
     reader: &[u8],
     bound: u64,
+    rule: u64,
     kept: &[u8],
     writer_state: u64,
     reader_state: u64,
     level: u64,
 ) -> u64
     ensures { λ z. ⌜ z ≡ packedAsked
-        (askOf (callOf (now (writer .entry)) (now (reader .entry)) bound) (now (kept .entry)) (confWith «writer_state» «reader_state» level)) ⌝ }
+        (askOf (callOf (now (writer .entry)) (now (reader .entry)) bound rule) (now (kept .entry)) (confWith «writer_state» «reader_state» level)) ⌝ }
 {
     let a = ask(
         writer,
         reader,
         bound,
+        rule,
         kept,
         writer_state,
         reader_state,
@@ -71,18 +79,20 @@ pub extern "C" fn bridge_ask_set(
     writer: &[u8],
     reader: &[u8],
     bound: u64,
+    rule: u64,
     kept: &[u8],
     writer_state: u64,
     reader_state: u64,
     level: u64,
 ) -> u64
-    ensures { λ z. ⌜ z ≡ askOf (callOf (now (writer .entry)) (now (reader .entry)) bound) (now (kept .entry))
+    ensures { λ z. ⌜ z ≡ askOf (callOf (now (writer .entry)) (now (reader .entry)) bound rule) (now (kept .entry))
         (confWith «writer_state» «reader_state» level) .set ⌝ }
 {
     ask(
         writer,
         reader,
         bound,
+        rule,
         kept,
         writer_state,
         reader_state,

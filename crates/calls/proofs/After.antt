@@ -43,13 +43,13 @@ module _ (u : Run) (w r : Row) (incoming : List ℕ) where
 
   pub mark-after : Movable u w r → doneBy u w r incoming .mark ≡ r .item
   unfolding doneBy
-  mark-after m = length-delivered (heldOf u) (w .item) (r .item) incoming (omega (arith, m .stock, held-count u))
+  mark-after m = length-delivered (heldOf u) (w .item) (r .item) incoming (omega (arith, m .enough, held-count u))
 
   pub delivered-after : Movable u w r → deliveredBy (doneBy u w r incoming) ≡ delivered (heldOf u) (w .item) (r .item) incoming
   unfolding doneBy
   delivered-after m =
       let d = delivered (heldOf u) (w .item) (r .item) incoming in
-      let e : length d ≡ r .item = length-delivered (heldOf u) (w .item) (r .item) incoming (omega (arith, m .stock, held-count u)) in
+      let e : length d ≡ r .item = length-delivered (heldOf u) (w .item) (r .item) incoming (omega (arith, m .enough, held-count u)) in
       single d (omega (arith, m .takes))
     where
       single : (l : List ℕ) → length l ≤ 1 → take (length l) (getD l 0 0 ∷ []) ≡ l

@@ -21,7 +21,7 @@ use Rattle.calls.specs.declared.Run.{Run}
 use Rattle.calls.specs.declared.Cycle.{Cycle}
 use Rattle.calls.specs.declared.Begun.{Begun}
 use Rattle.calls.specs.Call.{Call, pairOf}
-use Rattle.calls.specs.Refusals.{enterChecks}
+use Rattle.calls.specs.Refusals.{beginChecks}
 use Rattle.calls.specs.Build.{Made, buildChecks, BuildSays}
 use Rattle.calls.specs.Ask.{askChecks, askOf}
 use Rattle.calls.specs.Begin.{beginOf}
@@ -66,7 +66,7 @@ numbered cs zeros elevens e = record {
 module _ (k : Call) where
   pub begin-numbered : Numbered (beginOf k .verdict)
   unfolding beginOf hasNumber headerChecks rowChecks
-  begin-numbered = numbered (enterChecks k) refl refl (given-verdict (λ (b : Begun). b .verdict) _ _ (λ v. refl) refl (verdictOf (enterChecks k)))
+  begin-numbered = numbered (beginChecks k) refl refl (given-verdict (λ (b : Begun). b .verdict) _ _ (λ v. refl) refl (verdictOf (beginChecks k)))
 
   pub ask-numbered : (bytes : List ℕ) (c : Conf) → Numbered (askOf k bytes c .verdict)
   unfolding askOf hasNumber headerChecks rowChecks

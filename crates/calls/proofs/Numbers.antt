@@ -18,7 +18,7 @@ use Rattle.rules.specs.declared.Conf.{Conf}
 use Rattle.calls.specs.declared.Built.{Built}
 use Rattle.calls.specs.declared.Asked.{Asked}
 use Rattle.calls.specs.Call.{Call, pairOf}
-use Rattle.calls.specs.Refusals.{boundCheck, enterChecks}
+use Rattle.calls.specs.Refusals.{boundCheck, ruleCheck, beginChecks, enterChecks}
 use Rattle.calls.specs.Build.{Untouched, Made, buildsChecks, buildChecks, BuildSays}
 use Rattle.calls.specs.Ask.{moveSet, answered, unanswered, asksChecks, askChecks, askOf}
 
@@ -89,13 +89,18 @@ none : {n : ℕ} → n < 2 ^ 8 → (n < 2 ^ 8) × (0 < 2 ^ 8) × (0 < 2 ^ 16)
 none h = (h, omega arith, omega arith)
 
 module _ (k : Call) where
-  enter-small : Small (verdictOf (enterChecks k))
-  enter-small =
+  begin-small : Small (verdictOf (beginChecks k))
+  begin-small =
       let bound : List Check = boundCheck (k .bound) ∷ [] in
       joined-small (checks (k .writer) (sideNumber Writer)) (checks (k .reader) (sideNumber Reader) ++ bound) (checks-small (k .writer) 1 (omega arith))
       (λ _.
       joined-small (checks (k .reader) (sideNumber Reader)) bound (checks-small (k .reader) 2 (omega arith))
       (λ _. lines-small bound (none (omega arith), tt)))
+
+  enter-small : Small (verdictOf (enterChecks k))
+  enter-small =
+      let rule : List Check = ruleCheck (k .rule) ∷ [] in
+      joined-small (beginChecks k) rule begin-small (λ _. lines-small rule (none (omega arith), tt))
 
   pub built-small : (before after : List ℕ) (b : Built) → BuildSays k before after b → Small (b .verdict)
   built-small before after b =

@@ -1,5 +1,5 @@
 -- The refusals of each call stand in document 01's order: "The lowest number that applies is given, except that the writer's 1 to 8 come
--- before the reader's. In 14 and 16 the writer comes first." Assumes nothing.
+-- before the reader's. In 14 and 16 the writer comes first." Request a's 17 stands directly after 9. Assumes nothing.
 use Prim.Native.Nat.{ℕ}
 use mathlib.Core.Path.{_≡_, refl}
 use mathlib.Core.List.{List, [], _∷_, _++_, map}
@@ -9,7 +9,7 @@ use Rattle.rules.specs.declared.Conf.{Conf}
 use Rattle.calls.specs.declared.Run.{Run}
 use Rattle.calls.specs.declared.Cycle.{Cycle}
 use Rattle.calls.specs.Call.{Call}
-use Rattle.calls.specs.Refusals.{enterChecks}
+use Rattle.calls.specs.Refusals.{beginChecks}
 use Rattle.calls.specs.Build.{buildChecks}
 use Rattle.calls.specs.Ask.{askChecks}
 use Rattle.calls.specs.Step.{stepChecks}
@@ -19,19 +19,19 @@ abbrev pub oneToNine : List (ℕ × ℕ)
 oneToNine = oneToEight 1 ++ oneToEight 2 ++ ((9, 0) ∷ [])
 
 module _ (k : Call) (bytes : List ℕ) where
-  pub begin-order : map lineOf (enterChecks k) ≡ oneToNine
+  pub begin-order : map lineOf (beginChecks k) ≡ oneToNine
   unfolding headerChecks rowChecks
   begin-order = refl
 
-  pub build-order : map lineOf (buildChecks k bytes) ≡ oneToNine ++ ((10, 0) ∷ [])
+  pub build-order : map lineOf (buildChecks k bytes) ≡ oneToNine ++ ((17, 0) ∷ (10, 0) ∷ [])
   unfolding headerChecks rowChecks
   build-order = refl
 
-  pub ask-order : (c : Conf) → map lineOf (askChecks k bytes c) ≡ oneToNine ++ ((10, 0) ∷ (12, 0) ∷ (13, 0) ∷ [])
+  pub ask-order : (c : Conf) → map lineOf (askChecks k bytes c) ≡ oneToNine ++ ((17, 0) ∷ (10, 0) ∷ (12, 0) ∷ (13, 0) ∷ [])
   unfolding headerChecks rowChecks
   ask-order c = refl
 
   pub step-order : (u : Run) (c : Cycle)
-      → map lineOf (stepChecks k bytes u c) ≡ oneToNine ++ ((10, 0) ∷ (12, 0) ∷ (13, 0) ∷ (14, 1) ∷ (14, 2) ∷ (15, 0) ∷ (16, 1) ∷ (16, 2) ∷ [])
+      → map lineOf (stepChecks k bytes u c) ≡ oneToNine ++ ((17, 0) ∷ (10, 0) ∷ (12, 0) ∷ (13, 0) ∷ (14, 1) ∷ (14, 2) ∷ (15, 0) ∷ (16, 1) ∷ (16, 2) ∷ [])
   unfolding headerChecks rowChecks
   step-order u c = refl

@@ -35,7 +35,7 @@ module _ (held : List ℕ) (written taken : ℕ) (incoming : List ℕ) where
   pub length-delivered : taken ≤ length held + written → length (delivered held written taken incoming) ≡ taken
   length-delivered h = length-take-le taken (queued held written incoming) (omega (arith, length-queued))
 
-  -- under the buffer tests, which ask that what is taken was held at the start of the cycle: the front of what was held leaves, and what is
+  -- registered, where the tests ask that what is taken was held at the start of the cycle: the front of what was held leaves, and what is
   -- accepted goes behind the rest
   pub front-leaves : taken ≤ length held → delivered held written taken incoming ≡ take taken held
   front-leaves h = take-append-le taken held (firsts written incoming) h

@@ -15,7 +15,7 @@ use Rattle.calls.specs.declared.Run.{Run}
 use Rattle.calls.specs.declared.Cycle.{Cycle}
 use Rattle.calls.specs.declared.Begun.{Begun}
 use Rattle.calls.specs.Call.{Call, pairOf}
-use Rattle.calls.specs.Refusals.{enterChecks}
+use Rattle.calls.specs.Refusals.{beginChecks, enterChecks}
 use Rattle.calls.specs.Runs.{confOf}
 use Rattle.calls.specs.Begin.{beginOf}
 use Rattle.calls.specs.Step.{openChecks, turnChecks, stepChecks, stepOf}
@@ -30,7 +30,7 @@ zeroRun = record { writer = 0; reader = 0; level = 0; items = replicate 16 0 }
 pub begin-returns : (k : Call) {n s r : ℕ} → beginOf k .verdict ≡ Refused n s r → beginOf k ≡ record { verdict = Refused n s r; run = zeroRun }
 unfolding beginOf
 begin-returns k {n} {s} {r} e =
-    let v : Verdict = verdictOf (enterChecks k) in
+    let v : Verdict = verdictOf (beginChecks k) in
     let refused : v ≡ Refused n s r = sym (given-verdict (λ (b : Begun). b .verdict) _ _ (λ v. refl) refl v) ∙ e in
     rw (refused, padded-none)
 

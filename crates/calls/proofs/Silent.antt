@@ -16,15 +16,15 @@ use Rattle.format.specs.declared.Verdict.the-variants.{Fine}
 use Rattle.format.specs.Verdicts.{sideNumber, Check, verdictOf}
 use Rattle.format.specs.Format.{byte}
 use Rattle.format.specs.Reads.{checks, readOf}
-use Rattle.format.proofs.Verdicts.{fine-front, fine-goes-on, fine-silent, given-fine}
+use Rattle.format.proofs.Verdicts.{fine-front, fine-goes-on, fine-silent, verdict-append, then-none, given-fine}
 use Rattle.format.proofs.Readings.{read-verdict}
 use Rattle.format.proofs.Good.{read-good}
 use Rattle.rules.specs.declared.Pair.{Pair}
 use Rattle.rules.specs.declared.Conf.{Conf}
 use Rattle.rules.specs.Configurations.{GoodPair, Within, size}
 use Rattle.calls.specs.declared.Run.{Run}
-use Rattle.calls.specs.Call.{Call, pairOf}
-use Rattle.calls.specs.Refusals.{boundCheck, enterChecks, isOther, lentChecks, inRange, confCheck}
+use Rattle.calls.specs.Call.{Call, callOf, pairOf}
+use Rattle.calls.specs.Refusals.{boundCheck, ruleCheck, beginChecks, enterChecks, isOther, lentChecks, inRange, confCheck}
 use Rattle.calls.specs.Build.{buildsChecks}
 use Rattle.calls.specs.Ask.{asksChecks}
 use Rattle.rules.specs.Kept.{IsKept}
@@ -34,9 +34,12 @@ use Rattle.calls.specs.Step.{nonzero, runCheck, openChecks}
 use Rattle.calls.specs.Past.{Entered, Buildable, Askable}
 use Rattle.calls.proofs.Queues.{held-count, padded-zero}
 
--- ---- 1 to 9
+-- ---- 1 to 9, and 17
 
-module _ (k : Call) (fine : verdictOf (enterChecks k) ≡ Fine) where
+module _ (k : Call) (entered : verdictOf (enterChecks k) ≡ Fine) where
+  fine : verdictOf (beginChecks k) ≡ Fine
+  fine = fine-front (beginChecks k) (ruleCheck (k .rule) ∷ []) entered
+
   abbrev reader-checks : List Check
   reader-checks = checks (k .reader) (sideNumber Reader)
 
@@ -143,9 +146,17 @@ module _ (X : Pair) (bytes : List ℕ) (u : Run) where
 
 -- ---- begin, past 9
 
+-- it takes no rule: its checks decide as those of a call whose rule is 0 or 1, and its answer does not depend on the rule
+pub rule-silent : (k : Call) → k .rule ≤ 1 → verdictOf (enterChecks k) ≡ verdictOf (beginChecks k)
+rule-silent k low = verdict-append (beginChecks k) (ruleCheck (k .rule) ∷ []) ∙ rw (le-ltb 1 (k .rule) low) (then-none (verdictOf (beginChecks k)))
+
+pub begin-same : (writer reader : List ℕ) (bound rule other : ℕ) → beginOf (callOf writer reader bound rule) ≡ beginOf (callOf writer reader bound other)
+unfolding beginOf
+begin-same writer reader bound rule other = refl
+
 pub begin-done : (k : Call) → verdictOf (enterChecks k) ≡ Fine → begun (pairOf k) ≡ beginOf k
 unfolding beginOf
-begin-done k fine = given-fine _ (begun (pairOf k)) fine
+begin-done k entered = given-fine _ (begun (pairOf k)) (fine k entered)
 
 -- ---- of the bytes lent, the first N are those of the largest correct set
 

@@ -1,4 +1,4 @@
--- A cycle past its refusals: an outcome of an allowed move has room and stock, and the rows that the answers fix are such an outcome. Assumes nothing.
+-- A cycle past its refusals: an outcome of an allowed move leaves a level, and the rows that the answers fix are such an outcome. Assumes nothing.
 use Prim.Native.Nat.{ℕ, _<_}
 use native.Mathlib.Omega.{arith}
 use mathlib.Core.Path.{_≡_}
@@ -13,7 +13,7 @@ use Rattle.rules.specs.Sets.{AllowedIn}
 use Rattle.rules.specs.Kept.{KeptAt}
 use Rattle.rules.specs.Tools.Computed.{allowedTest}
 use Rattle.rules.proofs.Tools.RowsFor.{found-may}
-use Rattle.rules.proofs.Passes.{room, stock}
+use Rattle.rules.proofs.Passes.{fits, enough}
 use Rattle.rules.proofs.Places.{may-good}
 use Rattle.rules.proofs.Tools.Decided.{allowed-test}
 use Rattle.calls.specs.Past.{Askable, Movable}
@@ -29,8 +29,9 @@ module _ (X : Pair) (bytes : List ℕ) (u : Run) (able : Askable X bytes (confOf
   outcome-movable {w = w} {r} a o =
       let t = a .safe .tests w r o in
       record {
-        room = omega (arith, room X (u .level) w r t, able .few);
-        stock = stock X (u .level) w r t;
+        level-in = omega (arith, able .within .level-in, able .few);
+        fits = omega (arith, fits X (u .level) w r t, able .few);
+        enough = enough X (u .level) w r t;
         writes = may-good (X .writer) (able .good .writer) (o .writer) .item;
         takes = may-good (X .reader) (able .good .reader) (o .reader) .item;
       }

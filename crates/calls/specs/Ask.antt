@@ -34,7 +34,7 @@ answered set = record { verdict = Fine; set = set; count = ones set; lowest = tr
 abbrev pub unanswered : Verdict → Asked
 unanswered verdict = record { verdict = verdict; set = 0; count = 0; lowest = 64 }
 
--- past 9: 10, 12, 13
+-- past 9 and 17: 10, 12, 13
 abbrev pub asksChecks : Pair → List ℕ → Conf → List Check
 asksChecks X bytes c = lentChecks (size X) bytes ++ (confCheck X c ∷ [])
 

@@ -1,5 +1,5 @@
 -- Document 01: "Beginning a run takes two tables and B and gives the start with nothing held, or refuses (1 to 9) with all zero in the run
--- beside the refusal's number, side and row." Assumes nothing.
+-- beside the refusal's number, side and row." It takes no rule, and its answer is the same whatever the rule. Assumes nothing.
 use Prim.Native.Nat.{ℕ}
 use mathlib.Core.List.{[]}
 use Rattle.format.specs.declared.Verdict.{Verdict}
@@ -11,7 +11,7 @@ use Rattle.rules.specs.Configurations.{start, confWith}
 use Rattle.calls.specs.declared.Run.{Run}
 use Rattle.calls.specs.declared.Begun.{Begun}
 use Rattle.calls.specs.Call.{Call, pairOf}
-use Rattle.calls.specs.Refusals.{enterChecks}
+use Rattle.calls.specs.Refusals.{beginChecks}
 use Rattle.calls.specs.Items.{padded}
 use Rattle.calls.specs.Runs.{runAt}
 
@@ -32,4 +32,4 @@ begun X = record { verdict = Fine; run = startRun X }
 
 unfoldable pub beginOf : Call → Begun
 unfolding padded readOf
-beginOf k = given (verdictOf (enterChecks k)) notBegun (begun (pairOf k))
+beginOf k = given (verdictOf (beginChecks k)) notBegun (begun (pairOf k))

@@ -14,7 +14,8 @@ firsts (suc n) (i ∷ l) = i ∷ firsts n l
 abbrev pub queued : List ℕ → ℕ → List ℕ → List ℕ
 queued held written incoming = held ++ firsts written incoming
 
--- "the front leaves and is returned": as many as the reader's row takes
+-- "the front leaves and is returned": as many as the reader's row takes. "The incoming item is appended first, then the front leaves" (request a):
+-- what is taken is taken from held-then-incoming
 abbrev pub delivered : List ℕ → ℕ → ℕ → List ℕ → List ℕ
 delivered held written taken incoming = take taken (queued held written incoming)
 

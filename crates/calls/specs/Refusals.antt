@@ -1,5 +1,7 @@
--- Document 01's table of refusals from 9 on, as far as calls share it: each line by its number, its side and row (0 unless said) and when it applies.
--- "The lowest number that applies is given, except that the writer's 1 to 8 come before the reader's."
+-- Document 01's table of refusals from 9 on, and request a's 17, as far as calls share them: each line by its number, its side and row (0 unless said)
+-- and when it applies.
+-- "The lowest number that applies is given, except that the writer's 1 to 8 come before the reader's"; 17 stands
+-- "directly after 9" (request a).
 -- Assumes nothing.
 use Prim.Native.Nat.{ℕ}
 use mathlib.Core.Bool.{Bool, not, _&&_}
@@ -19,9 +21,17 @@ use Rattle.calls.specs.Call.{Call}
 abbrev pub boundCheck : ℕ → Check
 boundCheck bound = when 9 0 0 (ltb 15 bound)
 
--- every call: the writer's 1 to 8, the reader's 1 to 8, then 9
+-- rule above 1
+abbrev pub ruleCheck : ℕ → Check
+ruleCheck rule = when 17 0 0 (ltb 1 rule)
+
+-- begin: the writer's 1 to 8, the reader's 1 to 8, then 9
+abbrev pub beginChecks : Call → List Check
+beginChecks k = checks (k .writer) (sideNumber Writer) ++ (checks (k .reader) (sideNumber Reader) ++ (boundCheck (k .bound) ∷ []))
+
+-- every other call: "17, rule above 1, directly after 9"
 abbrev pub enterChecks : Call → List Check
-enterChecks k = checks (k .writer) (sideNumber Writer) ++ (checks (k .reader) (sideNumber Reader) ++ (boundCheck (k .bound) ∷ []))
+enterChecks k = beginChecks k ++ (ruleCheck (k .rule) ∷ [])
 
 -- lent buffer under N bytes, where n is N
 abbrev pub roomCheck : ℕ → List ℕ → Check

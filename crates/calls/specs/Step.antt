@@ -61,7 +61,7 @@ moveCheck X bytes u c = when 15 0 0 (not (allowedTest X bytes (confOf u) (c .«w
 abbrev pub rowCheck : Table → ℕ → ℕ → Check
 rowCheck t side found = when 16 side 0 (leb (t .count) found)
 
--- of the call, past 9: 10, 12, 13
+-- of the call, past 9 and 17: 10, 12, 13
 abbrev pub openChecks : Pair → List ℕ → Run → List Check
 openChecks X bytes u = lentChecks (size X) bytes ++ (runCheck X u ∷ [])
 

@@ -1,4 +1,5 @@
--- Document 01, "Pairs at their limits": the ten cases, one table. Tables are bytes, read by the definition of the reader. Assumes nothing.
+-- Document 01, "Pairs at their limits": the ten cases, which are registered, and those of request a, which are not, one table. Tables are bytes, read by
+-- the definition of the reader. Assumes nothing.
 use Prim.Native.Nat.{ℕ, zero, suc, _≤_}
 use mathlib.Core.Path.{_≡_}
 use mathlib.Core.Logic.{_⊎_}
@@ -118,7 +119,8 @@ ended cs c accepted delivered = record { verdict = Fine; run = runAt c []; cycle
 abbrev pub Says : Case → Claim → Type 1
 Says k (built number rounds n places) =
     BuiltSays (pairIn k) number rounds n places
-    × ((before after : List ℕ) (b : Built) → n ≤ length before → BuildSays (k .call) before after b → BuildGives (k .call) number rounds n places before after b)
+    × ((before after : List ℕ) (b : Built) → n ≤ length before → BuildSays (k .call) before after b
+    → BuildGives (k .call) number rounds n places before after b)
 Says k (asked c set) = (bytes : List ℕ) → IsKept (pairIn k) bytes → askOf (k .call) bytes c ≡ answered set
 Says k (ran cs outs c accepted delivered) =
     (bytes : List ℕ) (number : ℕ) → IsKept (pairIn k) bytes
@@ -131,35 +133,51 @@ abbrev cycle : ℕ → ℕ → ℕ → ℕ → ℕ → Cycle
 cycle x y a b incoming =
     record { «writer_letter» = x; «reader_letter» = y; «writer_answer» = a; «reader_answer» = b; incoming = incoming }
 
-abbrev A : ℕ → List Claim → Case
-A bound claims = record { call = callOf A-writer A-reader bound; claims = claims }
+-- the rules by their numbers
+abbrev registered : ℕ
+registered = 0
 
-abbrev C : ℕ → List Claim → Case
-C bound claims = record { call = callOf C-writer C-reader bound; claims = claims }
+abbrev flow-through : ℕ
+flow-through = 1
 
-abbrev bare : ℕ → List Claim → Case
-bare bound claims = record { call = callOf bare-writer bare-reader bound; claims = claims }
+abbrev A : ℕ → ℕ → List Claim → Case
+A bound rule claims = record { call = callOf A-writer A-reader bound rule; claims = claims }
+
+abbrev C : ℕ → ℕ → List Claim → Case
+C bound rule claims = record { call = callOf C-writer C-reader bound rule; claims = claims }
+
+abbrev bare : ℕ → ℕ → List Claim → Case
+bare bound rule claims = record { call = callOf bare-writer bare-reader bound rule; claims = claims }
 
 abbrev pub cases : List Case
 cases =
     -- 1
-    A 0 (built 11 2 4 (3 ∷ []) ∷ [])
+    A 0 registered (built 11 2 4 (3 ∷ []) ∷ [])
     -- 2
-    ∷ A 1 (built 0 2 8 (0 ∷ 5 ∷ 6 ∷ []) ∷ [])
+    ∷ A 1 registered (built 0 2 8 (0 ∷ 5 ∷ 6 ∷ []) ∷ [])
     -- 3
-    ∷ A 2 (built 0 2 12 (0 ∷ 7 ∷ 9 ∷ []) ∷ [])
+    ∷ A 2 registered (built 0 2 12 (0 ∷ 7 ∷ 9 ∷ []) ∷ [])
     -- 4
-    ∷ C 1 (built 11 3 6 (2 ∷ 3 ∷ 4 ∷ []) ∷ [])
+    ∷ C 1 registered (built 11 3 6 (2 ∷ 3 ∷ 4 ∷ []) ∷ [])
     -- 5
-    ∷ C 2 (built 0 2 9 (0 ∷ 1 ∷ 2 ∷ 3 ∷ 4 ∷ 5 ∷ 6 ∷ 7 ∷ []) ∷ [])
+    ∷ C 2 registered (built 0 2 9 (0 ∷ 1 ∷ 2 ∷ 3 ∷ 4 ∷ 5 ∷ 6 ∷ 7 ∷ []) ∷ [])
     -- 6
-    ∷ bare 0 (built 0 1 1 (0 ∷ []) ∷ asked (confWith 0 0 0) 0 ∷ [])
+    ∷ bare 0 registered (built 0 1 1 (0 ∷ []) ∷ asked (confWith 0 0 0) 0 ∷ [])
     -- 7
-    ∷ bare 15 (built 0 2 16 (0 ∷ []) ∷ [])
+    ∷ bare 15 registered (built 0 2 16 (0 ∷ []) ∷ [])
     -- 8
-    ∷ A 1 (asked (confWith 0 0 0) 257 ∷ asked (confWith 1 0 1) 3 ∷ asked (confWith 1 1 0) 1 ∷ [])
+    ∷ A 1 registered (asked (confWith 0 0 0) 257 ∷ asked (confWith 1 0 1) 3 ∷ asked (confWith 1 1 0) 1 ∷ [])
     -- 9
-    ∷ C 2 (asked (confWith 0 0 1) 515 ∷ [])
+    ∷ C 2 registered (asked (confWith 0 0 1) 515 ∷ [])
     -- 10
-    ∷ A 1 (ran (λ any. cycle 1 0 1 0 7 ∷ cycle 0 1 0 1 any ∷ []) ((0, 0) ∷ (7, 1) ∷ []) (confWith 1 1 0) (7 ∷ []) (7 ∷ []) ∷ [])
+    ∷ A 1 registered (ran (λ any. cycle 1 0 1 0 7 ∷ cycle 0 1 0 1 any ∷ []) ((0, 0) ∷ (7, 1) ∷ []) (confWith 1 1 0) (7 ∷ []) (7 ∷ []) ∷ [])
+    -- request a: "Pair C at bound 1 then keeps all 6, rounds 1"
+    ∷ C 1 flow-through (built 0 1 6 (0 ∷ 1 ∷ 2 ∷ 3 ∷ 4 ∷ 5 ∷ []) ∷ [])
+    -- at level 0 an item passes "in the cycle it is written"
+    ∷ C 1 flow-through (ran (λ any. cycle 1 1 1 1 7 ∷ []) ((7, 1) ∷ []) (confWith 1 0 0) (7 ∷ []) (7 ∷ []) ∷ [])
+    -- and "a full buffer" takes "one while giving one", in the second cycle
+    ∷ C 1 flow-through (ran (λ any. cycle 1 0 2 0 5 ∷ cycle 0 1 3 1 9 ∷ cycle 0 1 0 1 any ∷ []) ((0, 0) ∷ (5, 1) ∷ (9, 1) ∷ [])
+    (confWith 1 0 0) (5 ∷ 9 ∷ []) (5 ∷ 9 ∷ []) ∷ [])
+    -- pair A needs no buffer then
+    ∷ A 0 flow-through (built 0 2 4 (0 ∷ 3 ∷ []) ∷ asked (confWith 0 0 0) 513 ∷ [])
     ∷ []

@@ -1,6 +1,7 @@
 -- The customer's demands 2 and 3, over what the calls take and return: k is what a call takes, `before` and `after` the lent buffer of a build.
 -- Whether the build is done, whether it says "no converter", its kept count and its rounds are given as a caller reads them: off the result
 -- (`ofBuilt`), or, as the generator does, off the packed number (`ofPacked`).
+-- Request a reads both with the rule named: it is a field of k, and so of the pair; another bridge is one for the same tables, bound and rule.
 -- (Demand 1 is each call's own contract, which has no `requires`: docs/PROMISES.md.)
 -- Assumes nothing. That every result of build that satisfies its contract meets the demands is proved: proofs/Demand2.antt, Demand3.antt.
 use Prim.Native.Nat.{ℕ, _-_, _/_, _%_, _^_, _≤_, _<_}

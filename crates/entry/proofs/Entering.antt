@@ -1,7 +1,7 @@
--- Every call enters, and then the rest of it decides: one law for ask, build, begin and step. Assumes nothing.
-use Prim.Native.Nat.{ℕ}
-use mathlib.Core.Path.{_≡_, sym, ap, _∙_}
-use mathlib.Core.List.{List, [], _∷_, _++_}
+-- Every call enters, and then the rest of it decides: one law for ask, build and step. Assumes nothing.
+use Prim.Native.Nat.{ℕ, zero, suc}
+use mathlib.Core.Path.{_≡_, refl, sym, ap, _∙_}
+use mathlib.Core.List.{List, [], _∷_, _++_, append-assoc}
 use Rattle.format.specs.declared.Reading.{Reading}
 use Rattle.format.specs.declared.Side.the-variants.{Writer, Reader}
 use Rattle.format.specs.declared.Verdict.{Verdict}
@@ -10,33 +10,43 @@ use Rattle.format.specs.Verdicts.{sideNumber, Check, verdictOf, andThen, given}
 use Rattle.format.specs.Reads.{checks, readOf}
 use Rattle.format.proofs.Verdicts.{verdict-append, first-refuses, then-decides}
 use Rattle.format.proofs.Readings.{read-verdict}
+use Rattle.rules.specs.declared.Rule.{Rule}
+use Rattle.rules.specs.declared.Rule.the-variants.{FlowThrough}
 use Rattle.rules.specs.declared.Pair.{Pair}
-use Rattle.calls.specs.Call.{Call, pairOf}
-use Rattle.calls.specs.Refusals.{boundCheck, enterChecks}
+use Rattle.calls.specs.Call.{Call, ruleOf, pairOf}
+use Rattle.calls.specs.Refusals.{boundCheck, ruleCheck, enterChecks}
 use Rattle.calls.specs.Past.{Entered}
 use Rattle.calls.proofs.Silent.{enter-known}
 use Rattle.entry.specs.declared.Entry.{Entry}
 use Rattle.entry.specs.Enter.{Enters}
 
+pub other-rule : (n : ℕ) → (n ≡ 0 → ⊥) → FlowThrough ≡ ruleOf n
+other-rule zero h = absurd (h refl)
+other-rule (suc n) h = refl
+
 -- ---- what the code reads and tests is what the checks say
 
 module _ (k : Call) where
+  -- 9, then 17
+  abbrev numbers : List Check
+  numbers = boundCheck (k .bound) ∷ ruleCheck (k .rule) ∷ []
+
   verdict-is :
-      andThen (readOf (k .writer) Writer .verdict) (andThen (readOf (k .reader) Reader .verdict) (verdictOf (boundCheck (k .bound) ∷ [])))
+      andThen (readOf (k .writer) Writer .verdict) (andThen (readOf (k .reader) Reader .verdict) (verdictOf numbers))
       ≡ verdictOf (enterChecks k)
   verdict-is =
-      rw (
-        read-verdict (k .writer) Writer,
-        read-verdict (k .reader) Reader,
-        verdict-append (checks (k .writer) (sideNumber Writer)) (checks (k .reader) (sideNumber Reader) ++ (boundCheck (k .bound) ∷ [])),
-        verdict-append (checks (k .reader) (sideNumber Reader)) (boundCheck (k .bound) ∷ []),
-      )
+      let w = checks (k .writer) (sideNumber Writer) in
+      let r = checks (k .reader) (sideNumber Reader) in
+      let joined : enterChecks k ≡ w ++ (r ++ numbers) =
+      append-assoc w (r ++ (boundCheck (k .bound) ∷ [])) (ruleCheck (k .rule) ∷ [])
+      ∙ ap (λ (cs : List Check). w ++ cs) (append-assoc r (boundCheck (k .bound) ∷ []) (ruleCheck (k .rule) ∷ [])) in
+      rw (read-verdict (k .writer) Writer, read-verdict (k .reader) Reader, joined, verdict-append w (r ++ numbers), verdict-append r numbers)
 
-  pub enter-is : {w r : Reading} {v : Verdict} → w ≡ readOf (k .writer) Writer → r ≡ readOf (k .reader) Reader
-      → v ≡ andThen (w .verdict) (andThen (r .verdict) (verdictOf (boundCheck (k .bound) ∷ [])))
-      → Enters k (record { pair = record { writer = w .table; reader = r .table; bound = k .bound }; verdict = v })
-  enter-is ew er ev = record {
-    pair-is = λ i. record { writer = ew i .table; reader = er i .table; bound = k .bound };
+  pub enter-is : {w r : Reading} {v : Verdict} {rule : Rule} → rule ≡ ruleOf (k .rule) → w ≡ readOf (k .writer) Writer → r ≡ readOf (k .reader) Reader
+      → v ≡ andThen (w .verdict) (andThen (r .verdict) (verdictOf numbers))
+      → Enters k (record { pair = record { writer = w .table; reader = r .table; bound = k .bound; rule = rule }; verdict = v })
+  enter-is ec ew er ev = record {
+    pair-is = λ i. record { writer = ew i .table; reader = er i .table; bound = k .bound; rule = ec i };
     told = ev ∙ rw (ew, er) verdict-is;
   }
 
@@ -50,10 +60,6 @@ module _ {k : Call} {o : Entry} (entered : Enters k o) where
   entry-known e = rw (entered .pair-is) (enter-known k (entry-fine e))
 
   module _ {ℓ} {A : Type ℓ} (refuse : Verdict → A) where
-    -- a call that has no more checks
-    pub entry-gives : (done : A) → given (o .verdict) refuse done ≡ given (verdictOf (enterChecks k)) refuse done
-    entry-gives done = ap (λ (z : Verdict). given z refuse done) (entered .told)
-
     -- the entry checks, then the rest, over the pair as read
     module _ (done : Pair → A) (later : Pair → List Check) where
       abbrev whole : A

@@ -1,4 +1,4 @@
--- What every call has once both tables are read and the bound is tested: the pair, and the verdict of 1 to 9. Assumes nothing.
+-- What every call has once both tables are read and bound and rule are tested: the pair, and the verdict of 1 to 9 and 17. Assumes nothing.
 use mathlib.Core.Path.{_≡_}
 use Rattle.format.specs.Verdicts.{verdictOf}
 use Rattle.calls.specs.Call.{Call, pairOf}

@@ -1,4 +1,4 @@
-// What every call does first: read both tables and test the bound; and the tests of kept bytes that ask and step share.
+// What every call does first: read both tables, test the bound and the rule; and the tests of kept bytes that ask and step share.
 ghost use mathlib.Core.Path.{_≡_};
 ghost use mathlib.Core.Bool.{cond};
 ghost use mathlib.Core.List.{_∷_, []};
@@ -6,13 +6,14 @@ ghost use Prim.Native.Nat.{_≤_};
 ghost use lib.ListN.{length};
 ghost use lib.Dec.{ltb};
 ghost use Rattle.format.specs.Verdicts.{verdictOf, andThen};
-ghost use Rattle.calls.specs.Call.{callOf};
-ghost use Rattle.calls.specs.Refusals.{boundCheck, lentChecks};
+ghost use Rattle.calls.specs.Call.{ruleOf, callOf};
+ghost use Rattle.calls.specs.Refusals.{boundCheck, ruleCheck, lentChecks};
 ghost use Rattle.entry.specs.Enter.{Enters};
 ghost use Rattle.entry.specs.Largest.{Largest};
 use format::Side;
 use format::Verdict;
 use rules::Pair;
+use rules::Rule;
 use tables::read;
 use tables::refuse;
 
@@ -22,9 +23,9 @@ pub struct Entry {
     pub verdict: Verdict,
 }
 
-// The writer's refusal, else the reader's, else 9.
-fn first_of(writer: Verdict, reader: Verdict, bound: u64) -> Verdict
-    ensures { λ r. ⌜ r ≡ andThen writer (andThen reader (verdictOf (boundCheck bound ∷ []))) ⌝ }
+// The writer's refusal, else the reader's, else 9, else 17.
+fn first_of(writer: Verdict, reader: Verdict, bound: u64, rule: u64) -> Verdict
+    ensures { λ r. ⌜ r ≡ andThen writer (andThen reader (verdictOf (boundCheck bound ∷ ruleCheck rule ∷ []))) ⌝ }
 {
     let Verdict::Fine = writer else {
         return writer;
@@ -35,11 +36,24 @@ fn first_of(writer: Verdict, reader: Verdict, bound: u64) -> Verdict
     if 15 < bound {
         return refuse(9, 0);
     }
+    if 1 < rule {
+        return refuse(17, 0);
+    }
     Verdict::Fine
 }
 
-pub fn enter(writer: &[u8], reader: &[u8], bound: u64) -> Entry
-    ensures { λ r. ⌜ Enters (callOf (now (writer .entry)) (now (reader .entry)) bound) r ⌝ }
+// The rule that a number chooses. One above 1 is refused, so what it chooses here is never used.
+fn rule_of(rule: u64) -> Rule
+    ensures { λ r. ⌜ r ≡ ruleOf rule ⌝ }
+{
+    if rule == 0 {
+        return Rule::Registered;
+    }
+    Rule::FlowThrough
+}
+
+pub fn enter(writer: &[u8], reader: &[u8], bound: u64, rule: u64) -> Entry
+    ensures { λ r. ⌜ Enters (callOf (now (writer .entry)) (now (reader .entry)) bound rule) r ⌝ }
 {
     let w = read(writer, Side::Writer);
     let r = read(reader, Side::Reader);
@@ -47,14 +61,16 @@ pub fn enter(writer: &[u8], reader: &[u8], bound: u64) -> Entry
     let rt = r.table;
     let wv = w.verdict;
     let rv = r.verdict;
+    let chosen = rule_of(rule);
     let pair = Pair {
         writer: wt,
         reader: rt,
         bound: bound,
+        rule: chosen,
     };
     Entry {
         pair: pair,
-        verdict: first_of(wv, rv, bound),
+        verdict: first_of(wv, rv, bound, rule),
     }
 }
 

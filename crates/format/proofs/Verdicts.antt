@@ -42,6 +42,10 @@ pub then-fine : (v w : Verdict) → andThen v w ≡ Fine → (v ≡ Fine) × (w 
 then-fine Fine w e = (refl, e)
 then-fine (Refused n s r) w e = absurd (refused-not-fine e)
 
+pub then-none : (v : Verdict) → andThen v Fine ≡ v
+then-none Fine = refl
+then-none (Refused n s r) = refl
+
 pub then-refused : {v : Verdict} {n s r : ℕ} (w : Verdict) → v ≡ Refused n s r → v ≡ andThen v w
 then-refused w e = rw e
 

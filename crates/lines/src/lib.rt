@@ -2,10 +2,10 @@
 // here knows of tables, sets of configurations or the builder.
 ghost use Prim.Native.Nat.{_+_, _≤_, _<_};
 ghost use mathlib.Core.Path.{_≡_};
-ghost use lib.ListN.{length};
+ghost use lib.ListN.{length, getD};
 ghost use Rattle.texts.specs.Text.{moveText, bitText, movesBelow, firstLine, confLine, refusalLine};
 ghost use Rattle.texts.specs.Written.{Written};
-ghost use Rattle.texts.specs.Cut.{writerBytes, cutOf};
+ghost use Rattle.texts.specs.Cut.{tableBytes, cutOf};
 ghost use Rattle.put.specs.Piece.{Put};
 use put::digit;
 use put::end_line;
@@ -52,13 +52,21 @@ fn put_moves(out: &mut [u8], at: usize, set: u64) -> usize
 
 // Each of the three lines is written at the start of the buffer, which has room for it at any numbers; the answer is its
 // length.
-pub fn first_line(out: &mut [u8; 512], kept: u64, of: u64, rounds: u64, bound: u64) -> usize
-    ensures { λ r. ⌜ Written (firstLine kept of rounds bound) (now (out .entry)) r (now (out .exit)) ⌝ }
+pub fn first_line(
+    out: &mut [u8; 512],
+    kept: u64,
+    of: u64,
+    rounds: u64,
+    bound: u64,
+    rule: u64,
+) -> usize
+    ensures { λ r. ⌜ Written (firstLine kept of rounds bound rule) (now (out .entry)) r (now (out .exit)) ⌝ }
 {
     let second = put_field(out, 0, b"converter kept=", kept);
     let third = put_field(out, second, b" of=", of);
     let fourth = put_field(out, third, b" rounds=", rounds);
-    let end = put_field(out, fourth, b" bound=", bound);
+    let fifth = put_field(out, fourth, b" bound=", bound);
+    let end = put_field(out, fifth, b" rule=", rule);
     end_line(out, end)
 }
 
@@ -88,37 +96,43 @@ pub fn refusal_line(out: &mut [u8; 512], number: u64, side: u64, row: u64) -> us
     end_line(out, end)
 }
 
-// How many bytes the writer's table gets.
-fn writer_end(input: &[u8]) -> usize
-    ensures { λ r. ⌜ r ≡ writerBytes (now (input .entry)) ⌝ }
+// How many bytes the table gets that starts here.
+fn table_bytes(bytes: &[u8]) -> usize
+    ensures { λ r. ⌜ r ≡ tableBytes (now (bytes .entry)) ⌝ }
 {
-    if input.len() < 3 {
-        return input.len();
+    if bytes.len() < 3 {
+        return bytes.len();
     }
-    let end = 3 + 256 * wide(input[1]) + wide(input[2]);
-    if input.len() < end {
-        return input.len();
+    let end = 3 + 256 * wide(bytes[1]) + wide(bytes[2]);
+    if bytes.len() < end {
+        return bytes.len();
     }
     end
 }
 
-// Cuts the program's input into writer table, reader table and bound.
+fn byte_or(bytes: &[u8], at: usize, missing: u64) -> u64
+    ensures { λ r. ⌜ r ≡ getD (now (bytes .entry)) at missing ⌝ }
+{
+    if bytes.len() <= at {
+        return missing;
+    }
+    let byte = wide(bytes[at]);
+    byte as u64
+}
+
+// Cuts the program's input into writer table, reader table, bound and rule.
 pub fn cut_input(input: &[u8]) -> Cut
     ensures { λ r. ⌜ r ≡ cutOf (now (input .entry)) ⌝ }
 {
-    let writer = writer_end(input);
-    if writer == input.len() {
-        return Cut {
-            writer: writer,
-            reader: writer,
-            bound: 0,
-        };
-    }
-    let last = input.len() - 1;
-    let bound = wide(input[last]);
+    let writer = table_bytes(input);
+    let reader = writer + table_bytes(&input[writer..]);
+    let rest = &input[reader..];
+    let bound = byte_or(rest, 0, 0);
+    let rule = byte_or(rest, 1, 1);
     Cut {
         writer: writer,
-        reader: last,
-        bound: bound as u64,
+        reader: reader,
+        bound: bound,
+        rule: rule,
     }
 }

@@ -11,7 +11,6 @@ use Rattle.format.specs.Verdicts.{verdictOf}
 use Rattle.format.specs.Format.{byte}
 use Rattle.format.proofs.Verdicts.{refused-not-fine, refused-stays}
 use Rattle.rules.specs.declared.Conf.{Conf}
-use Rattle.rules.specs.declared.Pair.{Pair}
 use Rattle.rules.specs.Configurations.{confWith, size}
 use Rattle.rules.specs.Tools.Computed.{confAt}
 use Rattle.calls.specs.declared.Asked.{Asked}
@@ -43,7 +42,7 @@ lineOf c set = confLine (c .writer) (c .reader) (c .level) set
 
 -- ---- the first line
 
--- build accepts only a call that 1 to 9 do not refuse
+-- build accepts only a call that 1 to 9 and 17 do not refuse
 pub built-entered : (k : Call) (before after : List ℕ) (b : Built) → BuildSays k before after b → b .verdict ≡ Fine
     → verdictOf (enterChecks k) ≡ Fine
 built-entered k before after b says e =
@@ -51,12 +50,12 @@ built-entered k before after b says e =
     (λ fine made. build-enters k before fine)
     (λ n s r told u. absurd (refused-not-fine (sym (ap (λ (z : Built). z .verdict) (u .0)) ∙ e)))
 
-module _ (X : Pair) (b : Built) where
-  pub head-fine : {n : ℕ} → n ≡ size X → b .verdict ≡ Fine → firstLine (b .kept) n (b .rounds) (X .bound) ≡ headText X b
-  head-fine q e = ap (λ (z : ℕ). firstLine (b .kept) z (b .rounds) (X .bound)) q ∙ sym (ap (λ (v : Verdict). headAs v X b) e)
+module _ (k : Call) (b : Built) where
+  pub head-fine : {n : ℕ} → n ≡ size (pairOf k) → b .verdict ≡ Fine → firstLine (b .kept) n (b .rounds) (k .bound) (k .rule) ≡ headText k b
+  head-fine q e = ap (λ (z : ℕ). firstLine (b .kept) z (b .rounds) (k .bound) (k .rule)) q ∙ sym (ap (λ (v : Verdict). headAs v k b) e)
 
-  pub head-refused : {n s r : ℕ} → b .verdict ≡ Refused n s r → refusalLine n s r ≡ headText X b
-  head-refused e = sym (ap (λ (v : Verdict). headAs v X b) e)
+  pub head-refused : {n s r : ℕ} → b .verdict ≡ Refused n s r → refusalLine n s r ≡ headText k b
+  head-refused e = sym (ap (λ (v : Verdict). headAs v k b) e)
 
 module _ (k : Call) (bytes : List ℕ) where
   -- ---- the line of a configuration

@@ -1,11 +1,11 @@
--- Document 01, "The listing": which text the listing of a pair has, from what build and ask answer. Assumes nothing.
+-- Document 01, "The listing", with the rule in its first line (request a): which text the listing of a pair has, from what build and ask answer.
+-- Assumes nothing.
 use Prim.Native.Nat.{ℕ}
 use mathlib.Core.Bool.{cond}
 use mathlib.Core.List.{List, []}
 use Rattle.format.specs.declared.Verdict.{Verdict}
 use Rattle.format.specs.declared.Verdict.the-variants.{Fine, Refused}
 use Rattle.rules.specs.declared.Conf.{Conf}
-use Rattle.rules.specs.declared.Pair.{Pair}
 use Rattle.rules.specs.Configurations.{size}
 use Rattle.rules.specs.Tools.Computed.{oneAt, confAt}
 use Rattle.calls.specs.declared.Asked.{Asked}
@@ -16,19 +16,19 @@ use Rattle.calls.specs.Build.{BuildSays}
 use Rattle.texts.specs.Text.{firstLine, confLine, refusalLine}
 use Rattle.texts.specs.Written.{Written}
 
--- "First line: kept count, N, rounds, B." "A refusal prints `refused 11 side 0 row 0` with its numbers."
-abbrev pub headAs : Verdict → Pair → Built → List ℕ
-headAs Fine X b = firstLine (b .kept) (size X) (b .rounds) (X .bound)
-headAs (Refused number side row) X b = refusalLine number side row
+-- "First line: kept count, N, rounds, B." It "ends in ` rule=` and the number." "A refusal prints `refused 11 side 0 row 0` with its numbers."
+abbrev pub headAs : Verdict → Call → Built → List ℕ
+headAs Fine k b = firstLine (b .kept) (size (pairOf k)) (b .rounds) (k .bound) (k .rule)
+headAs (Refused number side row) k b = refusalLine number side row
 
-abbrev pub headText : Pair → Built → List ℕ
-headText X b = headAs (b .verdict) X b
+abbrev pub headText : Call → Built → List ℕ
+headText k b = headAs (b .verdict) k b
 
 -- what build answers, and leaves in the lent bytes, and the line of it
 pub record HeadSays (k : Call) (before after out : List ℕ) (r : ℕ) (written : List ℕ) : Type 0 where
   pub built : Built
   pub says : BuildSays k before after built
-  pub line : Written (headText (pairOf k) built) out r written
+  pub line : Written (headText k built) out r written
 
 -- "writer state, reader state, level, allowed moves": the line of a configuration by what ask answers there, and no text if ask refuses
 abbrev pub askedText : Verdict → Conf → Asked → List ℕ

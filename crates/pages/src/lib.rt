@@ -19,27 +19,34 @@ use lines::refusal_line;
 use numbers::places::frame_of;
 use numbers::places::places;
 
-// N, of a pair that 1 to 9 do not refuse.
-fn all_places(writer: &[u8], reader: &[u8], bound: u64) -> u64
-    requires { ⌜ verdictOf (enterChecks (callOf (now writer) (now reader) bound)) ≡ Fine ⌝ }
-    ensures { λ r. ⌜ r ≡ size (pairOf (callOf (now (writer .entry)) (now (reader .entry)) bound)) ⌝ }
+// N, of a pair that 1 to 9 and 17 do not refuse.
+fn all_places(writer: &[u8], reader: &[u8], bound: u64, rule: u64) -> u64
+    requires { ⌜ verdictOf (enterChecks (callOf (now writer) (now reader) bound rule)) ≡ Fine ⌝ }
+    ensures { λ r. ⌜ r ≡ size (pairOf (callOf (now (writer .entry)) (now (reader .entry)) bound rule)) ⌝ }
 {
-    let e = enter(writer, reader, bound);
+    let e = enter(writer, reader, bound, rule);
     let p = e.pair;
     let f = frame_of(p);
     places(f, f.n1) as u64
 }
 
 // Builds into the lent bytes, and writes the first line of the listing, or the line of a refusal.
-pub fn head(out: &mut [u8; 512], writer: &[u8], reader: &[u8], bound: u64, kept: &mut [u8]) -> usize
-    ensures { λ r. ⌜ HeadSays (callOf (now (writer .entry)) (now (reader .entry)) bound) (now (kept .entry)) (now (kept .exit))
+pub fn head(
+    out: &mut [u8; 512],
+    writer: &[u8],
+    reader: &[u8],
+    bound: u64,
+    rule: u64,
+    kept: &mut [u8],
+) -> usize
+    ensures { λ r. ⌜ HeadSays (callOf (now (writer .entry)) (now (reader .entry)) bound rule) (now (kept .entry)) (now (kept .exit))
         (now (out .entry)) r (now (out .exit)) ⌝ }
 {
-    let b = build(writer, reader, bound, kept);
+    let b = build(writer, reader, bound, rule, kept);
     let v = b.verdict;
     let Verdict::Refused { number, side, row } = v else {
-        let n = all_places(writer, reader, bound);
-        return first_line(out, b.kept, n, b.rounds, bound);
+        let n = all_places(writer, reader, bound, rule);
+        return first_line(out, b.kept, n, b.rounds, bound, rule);
     };
     refusal_line(out, number as u64, side as u64, row as u64)
 }
@@ -50,12 +57,13 @@ fn spot_line(
     writer: &[u8],
     reader: &[u8],
     bound: u64,
+    rule: u64,
     kept: &[u8],
     p: u64,
     readers: u64,
 ) -> usize
-    requires { ⌜ (0 < readers) × ((bound ≤ 15) × (readers ≡ pairOf (callOf (now writer) (now reader) bound) .reader .states)) ⌝ }
-    ensures { λ r. ⌜ Written (textAt (callOf (now (writer .entry)) (now (reader .entry)) bound) (now (kept .entry)) p)
+    requires { ⌜ (0 < readers) × ((bound ≤ 15) × (readers ≡ pairOf (callOf (now writer) (now reader) bound rule) .reader .states)) ⌝ }
+    ensures { λ r. ⌜ Written (textAt (callOf (now (writer .entry)) (now (reader .entry)) bound rule) (now (kept .entry)) p)
         (now (out .entry)) r (now (out .exit)) ⌝ }
 {
     let levels = bound + 1;
@@ -63,7 +71,7 @@ fn spot_line(
     let ws = states / readers;
     let rs = states % readers;
     let level = p % levels;
-    let a = ask(writer, reader, bound, kept, ws, rs, level);
+    let a = ask(writer, reader, bound, rule, kept, ws, rs, level);
     let v = a.verdict;
     let Verdict::Fine = v else {
         return 0;
@@ -77,10 +85,11 @@ pub fn place_line(
     writer: &[u8],
     reader: &[u8],
     bound: u64,
+    rule: u64,
     kept: &[u8],
     p: usize,
 ) -> usize
-    ensures { λ r. ⌜ Written (placeText (callOf (now (writer .entry)) (now (reader .entry)) bound) (now (kept .entry)) p)
+    ensures { λ r. ⌜ Written (placeText (callOf (now (writer .entry)) (now (reader .entry)) bound rule) (now (kept .entry)) p)
         (now (out .entry)) r (now (out .exit)) ⌝ }
 {
     if kept.len() <= p {
@@ -89,11 +98,20 @@ pub fn place_line(
     if kept[p] != 1 {
         return 0;
     }
-    let e = enter(writer, reader, bound);
+    let e = enter(writer, reader, bound, rule);
     let v = e.verdict;
     let Verdict::Fine = v else {
         return 0;
     };
     let states = e.pair.reader.states;
-    spot_line(out, writer, reader, bound, kept, p as u64, states as u64)
+    spot_line(
+        out,
+        writer,
+        reader,
+        bound,
+        rule,
+        kept,
+        p as u64,
+        states as u64,
+    )
 }

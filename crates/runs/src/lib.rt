@@ -1,6 +1,7 @@
 // A run with real items: the calls begin and step. Document 01, "The calls and what they return". Neither writes lent memory.
 ghost use mathlib.Core.Path.{_≡_};
 ghost use mathlib.Core.Bool.{not, _||_};
+ghost use Prim.Native.Nat.{ℕ};
 ghost use Rattle.lists.specs.Search.{some};
 ghost use Rattle.format.specs.Verdicts.{verdictOf};
 ghost use Rattle.calls.specs.Call.{callOf};
@@ -37,11 +38,12 @@ fn empty_run(writer: u64, reader: u64) -> Run
     }
 }
 
-// The start with nothing held. It takes no kept bytes and does not ask whether the start is kept.
+// The start with nothing held. It takes no kept bytes and does not ask whether the start is kept; it takes no
+// rule and enters under rule 0, which is never refused: its answer is the same for each.
 pub fn begin(writer: &[u8], reader: &[u8], bound: u64) -> Begun
-    ensures { λ z. ⌜ z ≡ beginOf (callOf (now (writer .entry)) (now (reader .entry)) bound) ⌝ }
+    ensures { λ z. ⌜ ((rule : ℕ) → z ≡ beginOf (callOf (now (writer .entry)) (now (reader .entry)) bound rule)) ⌝ }
 {
-    let e = enter(writer, reader, bound);
+    let e = enter(writer, reader, bound, 0);
     let v = e.verdict;
     let Verdict::Fine = v else {
         return Begun {
@@ -80,7 +82,7 @@ fn is_senseless(f: Frame, run: Run) -> bool
     true
 }
 
-// Past 9: refusals 10, 12 and 13.
+// Past 9 and 17: refusals 10, 12 and 13.
 fn open(p: Pair, kept: &[u8], run: Run) -> Verdict
     requires { ⌜ Entered p ⌝ }
     ensures { λ z. ⌜ z ≡ verdictOf (openChecks p (now (kept .entry)) run) ⌝ }
@@ -101,13 +103,14 @@ pub fn step(
     writer: &[u8],
     reader: &[u8],
     bound: u64,
+    rule: u64,
     kept: &[u8],
     run: Run,
     cycle: Cycle,
 ) -> Stepped
-    ensures { λ z. ⌜ z ≡ stepOf (callOf (now (writer .entry)) (now (reader .entry)) bound) (now (kept .entry)) run cycle ⌝ }
+    ensures { λ z. ⌜ z ≡ stepOf (callOf (now (writer .entry)) (now (reader .entry)) bound rule) (now (kept .entry)) run cycle ⌝ }
 {
-    let e = enter(writer, reader, bound);
+    let e = enter(writer, reader, bound, rule);
     let v = e.verdict;
     let Verdict::Fine = v else {
         return refused(v, run);

@@ -1,4 +1,5 @@
--- Document 01, "The listing": the text of its lines, as bytes in ASCII. The numbers are any numbers. Assumes nothing.
+-- Document 01, "The listing", as request a amends it: the text of its lines, as bytes in ASCII. The numbers are any
+-- numbers. Assumes nothing.
 use Prim.Native.Nat.{ℕ, zero, suc, _+_, _-_, _*_, _/_, _%_, _^_, _<_}
 use Prim.Native.Char.{code}
 use Prim.Native.String.{String, [] as no-letter, _∷_ as _and_}
@@ -76,11 +77,11 @@ field word n = ascii word ++ decimal n
 abbrev pub lineEnd : List ℕ
 lineEnd = ascii "\n"
 
--- `converter kept=3 of=8 rounds=2 bound=1`
-unfoldable pub firstLine : ℕ → ℕ → ℕ → ℕ → List ℕ
+-- `converter kept=3 of=8 rounds=2 bound=1 rule=0`
+unfoldable pub firstLine : ℕ → ℕ → ℕ → ℕ → ℕ → List ℕ
 unfolding decimal
-firstLine kept n rounds bound =
-    field "converter kept=" kept ++ field " of=" n ++ field " rounds=" rounds ++ field " bound=" bound ++ lineEnd
+firstLine kept n rounds bound rule =
+    field "converter kept=" kept ++ field " of=" n ++ field " rounds=" rounds ++ field " bound=" bound ++ field " rule=" rule ++ lineEnd
 
 -- `1 0 1 moves 0.0 0.1`: writer state, reader state, level, and the moves of the 64 bits of the set
 unfoldable pub confLine : ℕ → ℕ → ℕ → ℕ → List ℕ

@@ -6,6 +6,7 @@ pub struct Cut {
     pub writer: usize,
     pub reader: usize,
     pub bound: u64,
+    pub rule: u64,
 }
 
 // A crate has at least one function.

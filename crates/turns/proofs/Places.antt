@@ -68,9 +68,6 @@ module _ (items : List ℕ) (level incoming written : ℕ) (single : written ≤
 -- ---- a cycle that is done
 
 module _ (u : Run) (w r : Row) (incoming : ℕ) (m : Movable u w r) where
-  enough : r .item ≤ u .level + w .item
-  enough = omega (arith, m .stock)
-
   abbrev stays : List ℕ
   stays = heldAfter (heldOf u) (w .item) (r .item) (incoming ∷ [])
 
@@ -79,14 +76,14 @@ module _ (u : Run) (w r : Row) (incoming : ℕ) (m : Movable u w r) where
 
   places-are : {to : ℕ} → to ≡ u .level + w .item - r .item → padded (tab (leftAt (u .items) (u .level) incoming (r .item)) to) ≡ padded stays
   unfolding heldOf
-  places-are {to} e = ap padded (left-is (u .items) (u .level) incoming (w .item) (m .writes) (r .item) enough to e)
+  places-are {to} e = ap padded (left-is (u .items) (u .level) incoming (w .item) (m .writes) (r .item) (m .enough) to e)
 
   item-is : frontOf (u .items) (u .level) incoming (r .item) ≡ getD leaves 0 0
   unfolding heldOf
-  item-is = front-is (u .items) (u .level) incoming (w .item) (m .writes) (r .item) enough
+  item-is = front-is (u .items) (u .level) incoming (w .item) (m .writes) (r .item) (m .enough)
 
   mark-is : r .item ≡ length leaves
-  mark-is = sym (length-delivered (heldOf u) (w .item) (r .item) (incoming ∷ []) (omega (arith, held-count u, m .stock)))
+  mark-is = sym (length-delivered (heldOf u) (w .item) (r .item) (incoming ∷ []) (omega (arith, held-count u, m .enough)))
 
   pub done-is : {to : ℕ} → to ≡ u .level + w .item - r .item
       → {left : List ℕ} → left ≡ padded (tab (leftAt (u .items) (u .level) incoming (r .item)) to)

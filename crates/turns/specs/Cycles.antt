@@ -31,7 +31,7 @@ unfoldable pub byAnswers : Pair → Run → Cycle → Stepped
 unfolding seek doneBy
 byAnswers X u c = given (verdictOf (rowChecks X u c)) (refusedStep u) (doneOf X u c)
 
--- what is known there: if both answers fix a row, the run has room and stock for the two
+-- what is known there: if both answers fix a row, the run can move by the two (`Movable`)
 pub record Answerable (X : Pair) (u : Run) (c : Cycle) : Type 0 where
   pub good : GoodPair X
   pub movable : writerFound X u c < X .writer .count → readerFound X u c < X .reader .count

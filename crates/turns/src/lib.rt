@@ -21,11 +21,12 @@ use format::Table;
 use format::Verdict;
 use items::front;
 use items::moved;
+use numbers::columns::columns;
 use numbers::places::frame_of;
 use outcomes::allows;
 use outcomes::is_kept;
 use outcomes::landed;
-use outcomes::view_at;
+use outcomes::spot_at;
 use rules::Conf;
 use rules::Pair;
 use tables::refuse;
@@ -48,13 +49,15 @@ fn is_allowed(k: &[u8], p: Pair, c: Conf, x: u8, y: u8) -> bool
     requires { ⌜ Askable p (now k) c ⌝ }
     ensures { λ z. ⌜ z ≡ allowedTest p (now (k .entry)) c x y ⌝ }
 {
-    if !is_kept(k, frame_of(p), c) {
+    let f = frame_of(p);
+    if !is_kept(k, f, c) {
         return false;
     }
-    let v = view_at(p, c);
-    let w = v.writer;
-    let r = v.reader;
-    let s = v.spot;
+    let writer = p.writer;
+    let reader = p.reader;
+    let w = columns(writer);
+    let r = columns(reader);
+    let s = spot_at(&w, &r, f, c);
     allows(k, &w, &r, s, x, y)
 }
 

@@ -1,5 +1,5 @@
-// Document 01's worked pairs A and C as bytes with the bounds that the listing takes, and their kept bytes of cases 2 and 5, for the
-// programs that list and try them.
+// Document 01's worked pairs A and C as bytes, with the bounds that the listing takes and the kept bytes of cases 2 and 5, and the numbers of the
+// rules, for the programs that list and try them.
 pub const A_WRITER: [u8; 24] = [
     1,
     0,
@@ -53,6 +53,11 @@ pub const A_READER: [u8; 24] = [
     0,
     1,
 ];
+
+// The rules by their numbers.
+pub const REGISTERED: u64 = 0;
+
+pub const FLOW_THROUGH: u64 = 1;
 
 // "pair A at bounds 0, 1, 2, then pair C at 1, 2"
 pub const A_BOUNDS: [u64; 3] = [0, 1, 2];

@@ -1,4 +1,4 @@
-// Ask on cases 8 and 9 of document 01, on bytes that no builder made, and on its refusals.
+// Ask on cases 8 and 9 of document 01, on pair C under both rules, on bytes that no builder made, and on its refusals.
 use calls::Asked;
 use worked::A_KEPT;
 use worked::A_READER;
@@ -6,6 +6,8 @@ use worked::A_WRITER;
 use worked::C_KEPT;
 use worked::C_READER;
 use worked::C_WRITER;
+use worked::FLOW_THROUGH;
+use worked::REGISTERED;
 
 // Every place of pair A at bound 1: a set that is not correct, lent all the same.
 const ALL: [u8; 8] = [1, 1, 1, 1, 1, 1, 1, 1];
@@ -23,15 +25,24 @@ fn answer(name: &[u8], a: Asked) {
 fn of_a(name: &[u8], bound: u64, kept: [u8; 8], writer: u64, reader: u64, level: u64) {
     answer(
         name,
-        ask::ask(&A_WRITER, &A_READER, bound, &kept, writer, reader, level),
+        ask::ask(
+            &A_WRITER,
+            &A_READER,
+            bound,
+            REGISTERED,
+            &kept,
+            writer,
+            reader,
+            level,
+        ),
     );
 }
 
-// Pair C over the kept bytes of case 5.
-fn of_c(name: &[u8], bound: u64, level: u64) {
+// Pair C over the kept bytes of case 5, by either rule.
+fn of_c(name: &[u8], bound: u64, rule: u64, level: u64) {
     answer(
         name,
-        ask::ask(&C_WRITER, &C_READER, bound, &C_KEPT, 0, 0, level),
+        ask::ask(&C_WRITER, &C_READER, bound, rule, &C_KEPT, 0, 0, level),
     );
 }
 
@@ -39,15 +50,17 @@ fn cases() {
     of_a(b"case 8, A at (0,0,0)", 1, A_KEPT, 0, 0, 0);
     of_a(b"case 8, A at (1,0,1)", 1, A_KEPT, 1, 0, 1);
     of_a(b"case 8, A at (1,1,0)", 1, A_KEPT, 1, 1, 0);
-    of_c(b"case 9, C at (0,0,1)", 2, 1);
+    of_c(b"case 9, C at (0,0,1)", 2, REGISTERED, 1);
+    of_c(b"C at (0,0,1), bound 1, flow-through", 1, FLOW_THROUGH, 1);
+    of_c(b"C at (0,0,1), bound 1, registered", 1, REGISTERED, 1);
     of_a(b"A at (0,1,0), not kept", 1, A_KEPT, 0, 1, 0);
     of_a(b"all kept, A at (0,0,1)", 1, ALL, 0, 0, 1);
     of_a(b"all kept, A at (0,0,0)", 1, ALL, 0, 0, 0);
 }
 
-// The writer's refusal comes before the reader's, and both before the bound's.
+// The writer's refusal comes before the reader's, and both before the bound's and the rule's.
 fn tables_refused(name: &[u8], writer: [u8; 24], reader: [u8; 24], bound: u64) {
-    answer(name, ask::ask(&writer, &reader, bound, &A_KEPT, 0, 0, 0));
+    answer(name, ask::ask(&writer, &reader, bound, 2, &A_KEPT, 0, 0, 0));
 }
 
 fn refusals() {
@@ -60,7 +73,10 @@ fn refusals() {
     of_a(b"state 2", 1, A_KEPT, 2, 0, 0);
     of_a(b"state 256", 1, A_KEPT, 0, 256, 0);
     of_a(b"level 2", 1, A_KEPT, 0, 0, 2);
-    of_c(b"9 bytes for 6, byte 8 not looked at", 1, 0);
+    of_c(b"bound 16, rule 2", 16, 2, 0);
+    of_c(b"rule 2, 9 bytes for 12", 3, 2, 0);
+    of_c(b"rule 257", 2, 257, 0);
+    of_c(b"9 bytes for 6, byte 8 not looked at", 1, REGISTERED, 0);
 }
 
 pub fn run() {

@@ -1,4 +1,5 @@
-// Begin and step on case 10 of document 01, on a run of pair C that holds two items, and on each refusal.
+// Begin and step on case 10 of document 01, on a run of pair C that holds two items, on runs of pair C in which an item passes through, and on each
+// refusal.
 ghost use Prim.Native.Nat.{_<_};
 use calls::Begun;
 use calls::Cycle;
@@ -10,6 +11,8 @@ use worked::A_WRITER;
 use worked::C_KEPT;
 use worked::C_READER;
 use worked::C_WRITER;
+use worked::FLOW_THROUGH;
+use worked::REGISTERED;
 
 const TWO: [u8; 8] = [1, 0, 0, 0, 0, 1, 1, 2];
 
@@ -64,7 +67,7 @@ fn held(writer: u64, reader: u64, level: u64, place: usize, item: u32) -> Run
 // A step of pair A at bound 1, on the letters x and y, the answers a and b and an incoming item: shows it, and gives the run after it.
 fn of_a(name: &[u8], u: Run, x: u64, y: u64, a: u64, b: u64, incoming: u32) -> Run {
     let c = cycle(x, y, a, b, incoming);
-    let s = runs::step(&A_WRITER, &A_READER, 1, &A_KEPT, u, c);
+    let s = runs::step(&A_WRITER, &A_READER, 1, REGISTERED, &A_KEPT, u, c);
     show_stepped(name, s);
     s.run
 }
@@ -72,7 +75,16 @@ fn of_a(name: &[u8], u: Run, x: u64, y: u64, a: u64, b: u64, incoming: u32) -> R
 // The same of pair C at bound 2.
 fn of_c(name: &[u8], u: Run, x: u64, y: u64, a: u64, b: u64, incoming: u32) -> Run {
     let c = cycle(x, y, a, b, incoming);
-    let s = runs::step(&C_WRITER, &C_READER, 2, &C_KEPT, u, c);
+    let s = runs::step(&C_WRITER, &C_READER, 2, REGISTERED, &C_KEPT, u, c);
+    show_stepped(name, s);
+    s.run
+}
+
+// The same of pair C at bound 1 under flow-through, where all 6 are kept.
+fn through(name: &[u8], u: Run, x: u64, y: u64, a: u64, b: u64, incoming: u32) -> Run {
+    let kept = [1u8; 6];
+    let c = cycle(x, y, a, b, incoming);
+    let s = runs::step(&C_WRITER, &C_READER, 1, FLOW_THROUGH, &kept, u, c);
     show_stepped(name, s);
     s.run
 }
@@ -98,6 +110,17 @@ fn of_two_items() {
     of_c(b"C, an item of 0 out", zero, 0, 1, 0, 1, 9);
 }
 
+fn of_passing_items() {
+    let b = runs::begin(&C_WRITER, &C_READER, 1);
+    let u = b.run;
+    through(b"C at level 0, in and out", u, 1, 1, 1, 1, 7);
+    let one = through(b"C, burst", u, 1, 0, 2, 0, 5);
+    let two = through(b"C full, one in and one out", one, 0, 1, 3, 1, 9);
+    through(b"C, second out", two, 0, 1, 0, 1, 1);
+    through(b"15, C full, no item leaves", one, 0, 0, 3, 0, 9);
+    through(b"15, C empty, no item comes", u, 0, 1, 0, 1, 9);
+}
+
 // The writer's table of pair A with one byte changed: begin, and a step of a run that makes no sense.
 fn changed(name: &[u8], at: usize, value: u8)
     requires { ⌜ at < 24 ⌝ }
@@ -108,28 +131,28 @@ fn changed(name: &[u8], at: usize, value: u8)
     let u = held(300, 5, 77, 9, 4294967295);
     show_stepped(
         name,
-        runs::step(&t, &A_READER, 1, &A_KEPT, u, cycle(9, 9, 99, 99, 1)),
+        runs::step(&t, &A_READER, 1, 2, &A_KEPT, u, cycle(9, 9, 99, 99, 1)),
     );
 }
 
-// Begin, and the first step of case 10, with these tables, this bound and these kept bytes.
-fn with(name: &[u8], writer: &[u8], reader: &[u8], bound: u64, kept: &[u8]) {
+// Begin, and the first step of case 10, with these tables, this bound, this rule and these kept bytes.
+fn with(name: &[u8], writer: &[u8], reader: &[u8], bound: u64, rule: u64, kept: &[u8]) {
     show_begun(name, runs::begin(writer, reader, bound));
     let u = held(0, 0, 0, 0, 0);
     show_stepped(
         name,
-        runs::step(writer, reader, bound, kept, u, cycle(1, 0, 1, 0, 7)),
+        runs::step(writer, reader, bound, rule, kept, u, cycle(1, 0, 1, 0, 7)),
     );
 }
 
-// Tables that are refused: their refusal comes before that of the bound.
+// Tables that are refused: their refusal comes before that of the bound, and of the rule.
 fn with_tables(name: &[u8], writer: &[u8], reader: &[u8]) {
-    with(name, writer, reader, 99, &A_KEPT);
+    with(name, writer, reader, 99, 99, &A_KEPT);
 }
 
-// Pair A: the bound is refused before the bytes are looked at.
-fn with_bytes(name: &[u8], bound: u64, kept: &[u8]) {
-    with(name, &A_WRITER, &A_READER, bound, kept);
+// Pair A: the bound is refused before the rule, and both before the bytes are looked at.
+fn with_bytes(name: &[u8], bound: u64, rule: u64, kept: &[u8]) {
+    with(name, &A_WRITER, &A_READER, bound, rule, kept);
 }
 
 fn refusals_of_tables() {
@@ -145,11 +168,13 @@ fn refusals_of_tables() {
 }
 
 fn refusals_of_bytes() {
-    with_bytes(b"9, bound 16", 16, b"");
-    with_bytes(b"9, bound 257", 257, b"");
-    with_bytes(b"10, 8 bytes for 12", 2, &A_KEPT);
-    with_bytes(b"12, a byte of 2", 1, &TWO);
-    with_bytes(b"bytes past N not looked at", 0, &TWO);
+    with_bytes(b"9, bound 16, rule 2", 16, 2, b"");
+    with_bytes(b"9, bound 257", 257, REGISTERED, b"");
+    with_bytes(b"17, rule 2", 1, 2, b"");
+    with_bytes(b"17, rule 256", 1, 256, &A_KEPT);
+    with_bytes(b"10, 8 bytes for 12", 2, REGISTERED, &A_KEPT);
+    with_bytes(b"12, a byte of 2", 1, REGISTERED, &TWO);
+    with_bytes(b"bytes past N not looked at", 0, REGISTERED, &TWO);
 }
 
 fn refusals_of_runs() {
@@ -184,6 +209,7 @@ pub fn run() {
     show::text(b"---- begin and step\n");
     case_10();
     of_two_items();
+    of_passing_items();
     refusals_of_tables();
     refusals_of_bytes();
     refusals_of_runs();

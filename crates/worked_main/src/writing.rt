@@ -1,6 +1,6 @@
 // Lines of the listing, and how inputs of several lengths are cut.
-// Pair A's two tables and bound 1, as an input of the listing program.
-const PAIR_A: [u8; 49] = [
+// Pair A's two tables, bound 1 and rule 0, as an input of the listing program.
+const PAIR_A: [u8; 50] = [
     1,
     0,
     21,
@@ -50,11 +50,12 @@ const PAIR_A: [u8; 49] = [
     0,
     1,
     1,
+    0,
 ];
 
-fn first(kept: u64, of: u64, rounds: u64, bound: u64) {
+fn first(kept: u64, of: u64, rounds: u64, bound: u64, rule: u64) {
     let mut out = [0u8; 512];
-    let n = lines::first_line(&mut out, kept, of, rounds, bound);
+    let n = lines::first_line(&mut out, kept, of, rounds, bound, rule);
     show::text(&out[..n]);
 }
 
@@ -77,15 +78,23 @@ fn cut(input: &[u8]) {
         c.writer as u64,
         c.reader as u64,
         c.bound,
+        c.rule,
     ];
     show::line(
-        b"bytes %: writer below %, reader below %, bound %\n",
+        b"bytes %: writer below %, reader below %, bound %, rule %\n",
         &numbers,
     );
 }
 
 fn listed() {
-    first(3, 8, 2, 1);
+    first(3, 8, 2, 1, 0);
+    first(
+        18446744073709551615,
+        18446744073709551615,
+        18446744073709551615,
+        18446744073709551615,
+        18446744073709551615,
+    );
     conf(0, 0, 0, 257);
     conf(1, 0, 1, 3);
     conf(1, 1, 0, 1);
@@ -111,9 +120,13 @@ fn cuts() {
     cut(&pair[..24]);
     cut(&pair[..25]);
     cut(&pair[..26]);
+    cut(&pair[..47]);
+    cut(&pair[..48]);
+    cut(&pair[..49]);
     cut(&pair);
     cut(b"\0\0\0");
     cut(b"\0\0\0\x07");
+    cut(b"\0\0\0\0\0\0\x07\0later");
     cut(b"\x02\xff\xffabc");
     let long = [1u8; 1024];
     cut(&long);

@@ -13,7 +13,7 @@ pack-verdict-requires : tie.Need-pack-verdict-requires
 pack-verdict-requires c κs =
     let b = c .before .before in
     let a = b .before .before .before .before .before .args in
-    let call = callOf (a .writer .now) (a .reader .now) (a .bound) in
+    let call = callOf (a .writer .now) (a .reader .now) (a .bound) (a .rule) in
     let few : Few (b .build .result) = built-few call (a .buffer .now) _ (b .build .result) (b .build .ensures) in
     (omega (arith, few .0), omega (arith, few .1))
 

@@ -30,8 +30,19 @@ returns-3 c =
     let t = c .before .before in
     rw (t .before .before .enum-told .given .1, t .enum-told3 .given .1, lt-ltb _ _ (c .before .if1 .taken)) (c .refuse .ensures)
 
+refuse-requires-2 : tie.Need-refuse-requires-2
+refuse-requires-2 c κs = search needs
+
 returns-4 : tie.Need-returns-4
-returns-4 c = rw (c .before .before .before .enum-told .given .1, c .before .enum-told3 .given .1, le-ltb _ _ (c .if1 .left))
+returns-4 c =
+    let t = c .before .before .before in
+    rw (t .before .before .enum-told .given .1, t .enum-told3 .given .1, le-ltb _ _ (c .before .before .if1 .left), lt-ltb _ _ (c .before .if2 .taken))
+    (c .refuse2 .ensures)
+
+returns-5 : tie.Need-returns-5
+returns-5 c =
+    let t = c .before .before in
+    rw (t .before .before .enum-told .given .1, t .enum-told3 .given .1, le-ltb _ _ (c .before .if1 .left), le-ltb _ _ (c .if2 .left))
 
 pub first-of-spec : {M : Type 1} → statement M
 first-of-spec =
@@ -45,4 +56,6 @@ first-of-spec =
     returns-2
     refuse-requires
     returns-3
-    returns-4)
+    refuse-requires-2
+    returns-4
+    returns-5)

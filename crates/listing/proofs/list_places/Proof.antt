@@ -7,10 +7,10 @@ use Rattle.listing.proofs.list_places.Statement.{statement}
 use Rattle.listing.proofs.list_places.Tie as tie
 
 abbrev Inv-loop : tie.InvT-loop
-Inv-loop writer reader bound kept p₀ p = p ≤ length kept
+Inv-loop writer reader bound rule kept p₀ p = p ≤ length kept
 
 abbrev μ-loop : tie.MeasureT-loop
-μ-loop writer reader bound kept p₀ p = length kept - p
+μ-loop writer reader bound rule kept p₀ p = length kept - p
 
 loop-holds : tie.Need-loop-holds Inv-loop μ-loop
 loop-holds c = omega arith

@@ -14,7 +14,7 @@ abbrev entry : tie.After-enter → tie.Start
 entry c = c .before .before .before
 
 abbrev call : tie.After-enter → Call
-call c = let a = entry c .args in callOf (a .writer .now) (a .reader .now) (a .bound)
+call c = let a = entry c .args in callOf (a .writer .now) (a .reader .now) (a .bound) (a .rule)
 
 enter-requires : tie.Need-enter-requires
 enter-requires c κs = search needs

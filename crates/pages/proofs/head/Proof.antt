@@ -1,5 +1,5 @@
 -- `pages::head` meets its contract: build, and the line of its answer. Assumes nothing.
-use Rattle.calls.specs.Call.{Call, callOf, pairOf}
+use Rattle.calls.specs.Call.{Call, callOf}
 use Rattle.listings.proofs.Texts.{instead, built-entered, head-fine, head-refused}
 use borrow.Author.Needs.{needs}
 use Rattle.pages.proofs.head.Statement.{statement}
@@ -9,7 +9,7 @@ abbrev entry : tie.After-build → tie.Start
 entry c = c .before .before .before .before .before
 
 abbrev call : tie.After-build → Call
-call c = let a = entry c .args in callOf (a .writer .now) (a .reader .now) (a .bound)
+call c = let a = entry c .args in callOf (a .writer .now) (a .reader .now) (a .bound) (a .rule)
 
 -- where build accepts, and where it refuses
 abbrev accepted : tie.After-enum-told → tie.After-build
@@ -45,7 +45,7 @@ returns c =
     record {
       built = b .build .result;
       says = b .build .ensures;
-      line = instead (head-fine (pairOf (call b)) (b .build .result) (a .all-places .ensures) (a .before .enum-told .given .1)) (c .first-line .ensures);
+      line = instead (head-fine (call b) (b .build .result) (a .all-places .ensures) (a .before .enum-told .given .1)) (c .first-line .ensures);
     }
 
 cast-refusal-line : tie.Need-cast-refusal-line
@@ -70,7 +70,7 @@ returns-2 c =
     record {
       built = b .build .result;
       says = b .build .ensures;
-      line = instead (head-refused (pairOf (call b)) (b .build .result) (t .before .v .given .1)) (c .refusal-line .ensures);
+      line = instead (head-refused (call b) (b .build .result) (t .before .v .given .1)) (c .refusal-line .ensures);
     }
 
 pub head-spec : {M : Type 1} → statement M

@@ -14,7 +14,7 @@ abbrev entry : tie.Else2 → tie.Start
 entry c = c .before .before .before .before .before .before
 
 abbrev call : tie.Else2 → Call
-call c = let a = entry c .args in callOf (a .writer .now) (a .reader .now) (a .bound)
+call c = let a = entry c .args in callOf (a .writer .now) (a .reader .now) (a .bound) (a .rule)
 
 abbrev entered : tie.After-enum-told → tie.After-enter
 entered c = c .before .before

@@ -9,7 +9,7 @@ abbrev entry : tie.After-ask → tie.Start
 entry c = c .before .before .before .before
 
 abbrev call : tie.After-ask → Call
-call c = let a = entry c .args in callOf (a .writer .now) (a .reader .now) (a .bound)
+call c = let a = entry c .args in callOf (a .writer .now) (a .reader .now) (a .bound) (a .rule)
 
 add-levels : tie.Need-add-levels
 add-levels c = search needs

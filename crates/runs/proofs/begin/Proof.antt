@@ -1,4 +1,4 @@
--- `runs::begin` meets its contract: the entry checks, then the start. Assumes nothing.
+-- `runs::begin` meets its contract: the entry checks under rule 0, then the start. Assumes nothing.
 use Rattle.runs.proofs.Answers.{begin-refused, begin-starts}
 use borrow.Author.Needs.{needs}
 use Rattle.runs.proofs.begin.Statement.{statement}
@@ -17,7 +17,7 @@ empty-run-requires : tie.Need-empty-run-requires
 empty-run-requires c κs = search needs
 
 returns : tie.Need-returns
-returns c = begin-refused _ (c .before .before .before .enter .ensures) (c .before .enum-told2 .given .1) (c .empty-run .ensures)
+returns c rule = begin-refused _ _ _ (c .before .before .before .enter .ensures) rule (c .before .enum-told2 .given .1) (c .empty-run .ensures)
 
 cast-empty-run : tie.Need-cast-empty-run
 cast-empty-run c = search needs
@@ -29,9 +29,9 @@ empty-run-requires-2 : tie.Need-empty-run-requires-2
 empty-run-requires-2 c κs = search needs
 
 returns-2 : tie.Need-returns-2
-returns-2 c =
+returns-2 c rule =
     let e = c .before .before .before .before in
-    begin-starts _ (e .before .before .enter .ensures) (e .enum-told .given .1) (c .empty-run2 .ensures)
+    begin-starts _ _ _ (e .before .before .enter .ensures) rule (e .enum-told .given .1) (c .empty-run2 .ensures)
 
 pub begin-spec : {M : Type 1} → statement M
 begin-spec =

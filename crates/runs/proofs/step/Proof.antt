@@ -10,7 +10,7 @@ use Rattle.runs.proofs.step.Tie as tie
 abbrev entry : tie.After-enter → tie.Start
 entry c = c .before .before .before .before
 
--- past 9
+-- past 9 and 17
 abbrev entered : tie.After-open → tie.After-enum-told
 entered c = c .before .before
 

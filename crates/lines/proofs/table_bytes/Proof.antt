@@ -1,16 +1,16 @@
--- `lines::writer_end` meets its contract. Assumes nothing.
+-- `lines::table_bytes` meets its contract. Assumes nothing.
 use native.Mathlib.Omega.{arith}
 use Prim.Native.Nat.{_+_, min}
 use mathlib.Core.Path.{_≡_, sym}
 use lib.ListN.{length}
-use Rattle.texts.specs.Cut.{lengthField, writerBytes}
+use Rattle.texts.specs.Cut.{lengthField, tableBytes}
 use Rattle.texts.proofs.Cuts.{no-field, a-field}
 use borrow.Author.Needs.{needs}
-use Rattle.lines.proofs.writer_end.Statement.{statement}
-use Rattle.lines.proofs.writer_end.Tie as tie
+use Rattle.lines.proofs.table_bytes.Statement.{statement}
+use Rattle.lines.proofs.table_bytes.Tie as tie
 
 -- with a length field
-by-field : (c : tie.Else1) → let bs = c .before .before .args .input .now in writerBytes bs ≡ min (3 + lengthField bs) (length bs)
+by-field : (c : tie.Else1) → let bs = c .before .before .args .bytes .now in tableBytes bs ≡ min (3 + lengthField bs) (length bs)
 by-field c = a-field _ (c .if1 .left)
 
 returns : tie.Need-returns
@@ -43,8 +43,8 @@ returns-2 c = omega (arith, by-field (c .before .before .before .before .before)
 returns-3 : tie.Need-returns-3
 returns-3 c = omega (arith, by-field (c .before .before .before .before .before))
 
-pub writer-end-spec : {M : Type 1} → statement M
-writer-end-spec =
+pub table-bytes-spec : {M : Type 1} → statement M
+table-bytes-spec =
     tie.close
     (tie.spec
     returns

@@ -1,5 +1,7 @@
 //! Tables read as the proved code reads them: checked in their bytes, refusals
-//! 1 to 9, and then taken in hand.
+//! 1 to 9 and 17, and then taken in hand.
+
+use crate::rule::Rule;
 
 /// A checked table's header, and what is held of its rows.
 pub struct Side<T> {
@@ -23,21 +25,35 @@ pub struct Row {
     pub next: u8,
 }
 
-/// Both tables read and the bound tested; else the packed refusal. `hold`
-/// makes what is held of the bytes of rows.
+/// A pair that passed its tests.
+pub struct Entered<T> {
+    pub writer: Side<T>,
+    pub reader: Side<T>,
+    pub bound: u8,
+    pub rule: Rule,
+}
+
+/// Both tables read, the bound and the rule tested; else the packed refusal.
+/// `hold` makes what is held of the bytes of rows.
 #[inline(always)]
 pub fn enter<T>(
     hold: impl Fn(&[u8]) -> T,
     writer: &[u8],
     reader: &[u8],
     bound: u64,
-) -> Result<(Side<T>, Side<T>), u64> {
-    let w = read(&hold, writer, 1)?;
-    let r = read(&hold, reader, 2)?;
+    rule: u64,
+) -> Result<Entered<T>, u64> {
+    let writer = read(&hold, writer, 1)?;
+    let reader = read(&hold, reader, 2)?;
     if bound > 15 {
         return Err(9);
     }
-    Ok((w, r))
+    Ok(Entered {
+        writer,
+        reader,
+        bound: bound as u8,
+        rule: Rule::of(rule)?,
+    })
 }
 
 #[inline(always)]

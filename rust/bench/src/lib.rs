@@ -6,6 +6,7 @@
 mod hand;
 pub mod heap;
 pub mod one;
+mod rule;
 pub mod same;
 mod tables;
 pub mod tuned;

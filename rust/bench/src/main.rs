@@ -1,5 +1,5 @@
-//! The proved builder against four builders in safe Rust, in one run:
-//! `rust/with run --profile fast -p bench`. Not part of the gate.
+//! The proved builder against four builders in safe Rust, under both rules, in
+//! one run: `rust/with run --profile fast -p bench`. Not part of the gate.
 //!
 //! - ours: the proved builder, by its entry point
 //! - same: the proved code function by function, with the same memory
@@ -17,7 +17,7 @@ mod clock;
 use bench::{heap, one, same, tuned};
 use bridge::{packed, Configuration};
 use inputs::{chains, damaged_pair, large_pair, long_way, small_pair};
-use inputs::{ManyRounds, Pair, Random, MANY_ROUNDS};
+use inputs::{ManyRounds, Pair, Random, FLOW_THROUGH, MANY_ROUNDS, REGISTERED, RULES};
 use std::hint::black_box;
 use std::time::Duration;
 
@@ -28,7 +28,7 @@ const FEW_TURNS: usize = 3;
 /// A turn builds its pairs again until this much time has gone.
 const TURN: Duration = Duration::from_millis(20);
 
-type Builder = fn(&[u8], &[u8], u64, &mut [u8]) -> u64;
+type Builder = fn(&[u8], &[u8], u64, u64, &mut [u8]) -> u64;
 
 const BUILDERS: [(&str, Builder); 5] = [
     ("ours", packed::build),
@@ -39,16 +39,20 @@ const BUILDERS: [(&str, Builder); 5] = [
 ];
 
 fn main() {
-    // A last word picks one group: `bench dense`.
+    // A last word picks groups: `bench dense`.
     let only = std::env::args().nth(1).unwrap_or_default();
-    let mut picked = groups();
-    picked.retain(|group| group.name.contains(&only));
-    if !picked.is_empty() {
-        print_head();
+    for (rule, groups) in [
+        ("Registered", registered_groups()),
+        (
+            "Flow-through: what depends on the rule, and one of the three pairs with the most rounds",
+            flow_through_groups(),
+        ),
+    ] {
+        let picked = groups.iter().filter(|group| group.name.contains(&only));
+        compare_groups(rule, &Vec::from_iter(picked));
     }
-    picked.iter().for_each(compare_builds);
     if "ask".contains(&only) {
-        compare_asks();
+        RULES.iter().for_each(|rule| compare_asks(*rule));
     }
 }
 
@@ -60,34 +64,64 @@ struct Group {
     turns: usize,
 }
 
-fn groups() -> Vec<Group> {
-    let mut groups = vec![
-        random_group("20 dense pairs, 8 letters", 1008, 20, |r| large_pair(r, 8)),
-        random_group("20 dense pairs, 2 letters", 1002, 20, |r| large_pair(r, 2)),
-        random_group("1,000 small pairs", 1, 1000, small_pair),
-        random_group("1,000 small pairs, any bound", 2, 1000, any_bound),
-        random_group("1,000 damaged pairs", 3, 1000, damaged_pair),
+/// All groups. Three of them do not depend on the rule and are measured here
+/// only.
+fn registered_groups() -> Vec<Group> {
+    let mut groups = groups(REGISTERED);
+    groups.extend([
+        random_group("1,000 damaged pairs of either rule", 3, 1000, damaged_pair),
         fixed_group("a bare pair: one state a side, no rows", 0),
         fixed_group("the same refused with 9: both tables are read", 16),
+    ]);
+    groups.extend(many_rounds_groups(REGISTERED, 3));
+    groups
+}
+
+/// The groups that depend on the rule; of the three with the most rounds, the
+/// first.
+fn flow_through_groups() -> Vec<Group> {
+    let mut groups = groups(FLOW_THROUGH);
+    groups.extend(many_rounds_groups(FLOW_THROUGH, 1));
+    groups
+}
+
+/// Pairs with more than 300 rounds; of those with more than 3,000, which take
+/// the longest to measure, the first few.
+fn many_rounds_groups(rule: u64, few: usize) -> Vec<Group> {
+    let many = MANY_ROUNDS.iter().filter(|found| found.rounds[0] > 300);
+    let (most, others): (Vec<_>, Vec<_>) = many.partition(|found| found.rounds[0] > 3_000);
+    let picked = most.into_iter().take(few).chain(others);
+    picked.map(|found| many_rounds_group(found, rule)).collect()
+}
+
+fn groups(rule: u64) -> Vec<Group> {
+    let dense = |letters| move |r: &mut Random| large_pair(r, letters, rule);
+    let any_bound = |r: &mut Random| {
+        let pair = small_pair(r, rule);
+        let bound = r.below(16);
+        Pair { bound, ..pair }
+    };
+    vec![
+        random_group("20 dense pairs, 8 letters", 1008, 20, dense(8)),
+        random_group("20 dense pairs, 2 letters", 1002, 20, dense(2)),
+        random_group("1,000 small pairs", 1, 1000, |r| small_pair(r, rule)),
+        random_group("1,000 small pairs, any bound", 2, 1000, any_bound),
         Group {
             name: "chains, 16 by 16 states".to_string(),
             source: "chains".to_string(),
-            pairs: chains(),
+            pairs: chains(rule),
             turns: TURNS,
         },
         Group {
             name: "2 long ways".to_string(),
             source: "long_way".to_string(),
-            pairs: [false, true].map(|upward| long_way(15, upward)).to_vec(),
+            pairs: [false, true].map(|up| long_way(15, up, rule)).to_vec(),
             turns: TURNS,
         },
-    ];
-    let many = MANY_ROUNDS.iter().filter(|found| found.rounds > 300);
-    groups.extend(many.map(many_rounds_group));
-    groups
+    ]
 }
 
-fn random_group(name: &str, seed: u64, count: usize, pair: fn(&mut Random) -> Pair) -> Group {
+fn random_group(name: &str, seed: u64, count: usize, pair: impl Fn(&mut Random) -> Pair) -> Group {
     let mut random = Random::new(seed);
     Group {
         name: name.to_string(),
@@ -107,37 +141,32 @@ fn fixed_group(name: &str, bound: u64) -> Group {
             writer: side(1),
             reader: side(2),
             bound,
+            rule: REGISTERED,
         }],
         turns: TURNS,
     }
 }
 
-fn any_bound(random: &mut Random) -> Pair {
-    let pair = small_pair(random);
-    Pair {
-        bound: random.below(16),
-        ..pair
-    }
-}
-
-fn many_rounds_group(found: &ManyRounds) -> Group {
-    let pair = Pair {
-        writer: found.writer.to_vec(),
-        reader: found.reader.to_vec(),
-        bound: found.bound,
-    };
+fn many_rounds_group(found: &ManyRounds, rule: u64) -> Group {
+    let rounds = found.rounds_under(rule);
     Group {
-        name: format!("{} rounds, {}", found.rounds, found.name),
+        name: format!("{rounds} rounds, {}", found.name),
         source: found.name.to_string(),
-        pairs: vec![pair],
-        turns: if found.rounds > 400 { FEW_TURNS } else { TURNS },
+        pairs: vec![found.pair(rule)],
+        turns: if rounds > 400 { FEW_TURNS } else { TURNS },
     }
 }
 
 /// What a builder returns and leaves in the lent bytes, past N too.
 fn built(builder: Builder, pair: &Pair) -> (u64, [u8; 4100]) {
     let mut buffer = [7; 4100];
-    let number = builder(&pair.writer, &pair.reader, pair.bound, &mut buffer);
+    let number = builder(
+        &pair.writer,
+        &pair.reader,
+        pair.bound,
+        pair.rule,
+        &mut buffer,
+    );
     (number, buffer)
 }
 
@@ -166,13 +195,24 @@ fn time_builds(builder: Builder, pairs: &[Pair]) -> f64 {
     loop {
         for pair in pairs {
             let (writer, reader) = (black_box(&pair.writer), black_box(&pair.reader));
-            black_box(builder(writer, reader, pair.bound, &mut buffer));
+            black_box(builder(writer, reader, pair.bound, pair.rule, &mut buffer));
         }
         calls += pairs.len();
         let taken = clock::now() - begun;
         if taken >= TURN {
             return taken.as_secs_f64() * 1e6 / calls as f64;
         }
+    }
+}
+
+fn compare_groups(rule: &str, groups: &[&Group]) {
+    if groups.is_empty() {
+        return;
+    }
+    println!("\n{rule}\n");
+    print_head();
+    for group in groups {
+        compare_builds(group);
     }
 }
 
@@ -220,7 +260,7 @@ fn questions(pairs: Vec<Pair>) -> Vec<Question> {
     let mut questions = Vec::new();
     for pair in pairs {
         let mut kept = vec![0; pair.count()];
-        packed::build(&pair.writer, &pair.reader, pair.bound, &mut kept);
+        packed::build(&pair.writer, &pair.reader, pair.bound, pair.rule, &mut kept);
         for _ in 0..10 {
             let (writer, reader, level) = inputs::configuration(&mut random, &pair);
             let at = Configuration {
@@ -234,21 +274,21 @@ fn questions(pairs: Vec<Pair>) -> Vec<Question> {
     questions
 }
 
-fn plain_set(q: &Question) -> u64 {
-    let (pair, kept, at) = q;
-    let tables = (&pair.writer[..], &pair.reader[..], pair.bound);
-    one::ask_set(tables, kept, (at.writer, at.reader, at.level))
+fn plain_set((pair, kept, at): &Question) -> u64 {
+    one::ask_set(call(pair), kept, (at.writer, at.reader, at.level))
 }
 
-fn straight_set(q: &Question) -> u64 {
-    let (pair, kept, at) = q;
-    let tables = (&pair.writer[..], &pair.reader[..], pair.bound);
-    one::ask_set_straight(tables, kept, (at.writer, at.reader, at.level))
+fn straight_set((pair, kept, at): &Question) -> u64 {
+    one::ask_set_straight(call(pair), kept, (at.writer, at.reader, at.level))
 }
 
-fn proved_set(q: &Question) -> u64 {
-    let (pair, kept, at) = q;
-    packed::ask_set(&pair.writer, &pair.reader, pair.bound, kept, *at)
+fn call(pair: &Pair) -> one::Call<'_> {
+    (&pair.writer, &pair.reader, pair.bound, pair.rule)
+}
+
+fn proved_set((pair, kept, at): &Question) -> u64 {
+    let (writer, reader, bound, rule) = call(pair);
+    packed::ask_set(writer, reader, bound, rule, kept, *at)
 }
 
 fn time_asks(ask: fn(&Question) -> u64, list: &[Question], calls: usize) -> Duration {
@@ -287,18 +327,16 @@ fn report(
     );
 }
 
-fn compare_asks() {
+fn compare_asks(rule: u64) {
     let mut random = Random::new(3);
-    let small = (0..1000).map(|_| small_pair(&mut random)).collect();
-    let dense = (0..20).map(|_| large_pair(&mut random, 8)).collect();
+    let small = Vec::from_iter((0..1000).map(|_| small_pair(&mut random, rule)));
+    let mut dense = Vec::from_iter((0..20).map(|_| large_pair(&mut random, 8, rule)));
+    dense.extend(chains(rule));
     for (name, pairs, calls) in [
-        ("ask, small pairs", small, 4),
-        ("ask, dense pairs and chains", dense, 40),
+        ("ask, small pairs", small, 2),
+        ("ask, dense pairs and chains", dense, 15),
     ] {
-        let mut list = questions(pairs);
-        if calls == 40 {
-            list.extend(questions(chains()));
-        }
+        let list = questions(pairs);
         for question in &list {
             assert_eq!(proved_set(question), plain_set(question));
             assert_eq!(proved_set(question), straight_set(question));
@@ -306,6 +344,7 @@ fn compare_asks() {
         let proved = || time_asks(proved_set, &list, calls);
         let plain = || time_asks(plain_set, &list, calls);
         let straight = || time_asks(straight_set, &list, calls);
-        report(name, calls * list.len(), proved, plain, straight);
+        let name = format!("{name}, rule {rule}");
+        report(&name, calls * list.len(), proved, plain, straight);
     }
 }

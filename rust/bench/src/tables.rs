@@ -1,4 +1,6 @@
-//! Tables in bytes, checked where they stand: refusals 1 to 9.
+//! Tables in bytes, checked where they stand: refusals 1 to 9 and 17.
+
+use crate::rule::Rule;
 
 /// A row: state, drive, answer, item, next state.
 pub type Row = [u8; 5];
@@ -11,17 +13,23 @@ pub struct Table<'a> {
     pub rows: &'a [Row],
 }
 
-/// Two checked tables and a bound.
+/// Two checked tables, a bound and a rule.
 pub struct Pair<'a> {
     pub writer: Table<'a>,
     pub reader: Table<'a>,
     pub bound: u8,
+    pub rule: Rule,
 }
 
 impl<'a> Pair<'a> {
     /// The pair, or the packed refusal.
     #[inline]
-    pub fn read(writer: &'a [u8], reader: &'a [u8], bound: u64) -> Result<Pair<'a>, u64> {
+    pub fn read(
+        writer: &'a [u8],
+        reader: &'a [u8],
+        bound: u64,
+        rule: u64,
+    ) -> Result<Pair<'a>, u64> {
         let writer = read(writer, 1)?;
         let reader = read(reader, 2)?;
         if bound > 15 {
@@ -31,6 +39,7 @@ impl<'a> Pair<'a> {
             writer,
             reader,
             bound: bound as u8,
+            rule: Rule::of(rule)?,
         })
     }
 

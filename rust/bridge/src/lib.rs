@@ -1,13 +1,13 @@
 //! The proved bridge builder, for Rust.
 //!
-//! Two protocol tables in bytes and the bound of the buffer between them go
-//! in; out come the configurations in which a bridge can stay for ever
-//! without losing an item and can always still finish ([`build`]), and the
-//! moves that are allowed at each ([`ask`]). Every call takes anything: what
-//! is not a table is refused, with a reason.
+//! Two protocol tables in bytes, the bound of the buffer between them and the
+//! [`Rule`] of that buffer go in; out come the configurations in which a
+//! bridge can stay for ever without losing an item and can always still
+//! finish ([`build`]), and the moves that are allowed at each ([`ask`]). Every
+//! call takes anything: what is not a table is refused, with a reason.
 //!
 //! ```
-//! use bridge::{ask, build, Configuration};
+//! use bridge::{ask, build, Configuration, Rule};
 //!
 //! // Two states a side: letter 0 waits, letter 1 moves an item to the end.
 //! let mut writer = [0; 24];
@@ -17,13 +17,17 @@
 //! reader[3] = 2;
 //!
 //! let mut kept = [0; 8];
-//! let built = build(&writer, &reader, 1, &mut kept)?;
+//! let built = build(&writer, &reader, 1, Rule::Registered, &mut kept)?;
 //! assert_eq!((built.kept, built.rounds), (3, 2));
 //! assert_eq!(kept, [1, 0, 0, 0, 0, 1, 1, 0]);
 //!
 //! let start = Configuration { writer: 0, reader: 0, level: 0 };
-//! let moves = ask(&writer, &reader, 1, &kept, start)?;
+//! let moves = ask(&writer, &reader, 1, Rule::Registered, &kept, start)?;
 //! assert_eq!(moves.iter().collect::<Vec<_>>(), [(0, 0), (1, 0)]);
+//!
+//! // Under the other rule the item may go from side to side in one cycle.
+//! let moves = ask(&writer, &reader, 1, Rule::FlowThrough, &kept, start)?;
+//! assert_eq!(moves.iter().collect::<Vec<_>>(), [(0, 0), (1, 0), (1, 1)]);
 //! # Ok::<(), bridge::Refusal>(())
 //! ```
 
@@ -33,9 +37,11 @@
 mod moves;
 pub mod packed;
 mod refusal;
+mod rule;
 
 pub use moves::{Iter, Moves};
 pub use refusal::{Refusal, Side};
+pub use rule::Rule;
 
 /// What an accepted pair gives beside the kept bytes.
 #[derive(Clone, Copy, Debug, PartialEq, Eq)]
@@ -69,14 +75,16 @@ pub struct Configuration {
 /// written.
 ///
 /// ```
+/// use bridge::{build, Rule};
+///
 /// // One state a side and no rows: what is at its end already may stay there.
 /// let writer = [1, 0, 6, 1, 1, 0, 0, 1, 0];
 /// let reader = [1, 0, 6, 2, 1, 0, 0, 1, 0];
 /// let mut buffer = [7; 3];
-/// let built = bridge::build(&writer, &reader, 0, &mut buffer).unwrap();
+/// let built = build(&writer, &reader, 0, Rule::FlowThrough, &mut buffer).unwrap();
 /// assert_eq!((built.kept, built.rounds, buffer), (1, 1, [1, 7, 7]));
 ///
-/// let refusal = bridge::build(&writer, &writer, 0, &mut buffer).unwrap_err();
+/// let refusal = build(&writer, &writer, 0, Rule::FlowThrough, &mut buffer).unwrap_err();
 /// assert_eq!(
 ///     refusal.to_string(),
 ///     "the reader's table has the role of the other side (refusal 4, side 2, row 0)"
@@ -86,16 +94,16 @@ pub fn build(
     writer: &[u8],
     reader: &[u8],
     bound: u64,
+    rule: Rule,
     buffer: &mut [u8],
 ) -> Result<Built, Refusal> {
-    let number = packed::build(writer, reader, bound, buffer);
-    let built = Built {
-        kept: packed::fourth(number),
-        rounds: packed::fifth(number),
-    };
+    let number = packed::build(writer, reader, bound, rule.number(), buffer);
     match Refusal::of(number) {
-        None => Ok(built),
-        Some(refusal) => Err(refusal.after(built.rounds)),
+        None => Ok(Built {
+            kept: packed::fourth(number),
+            rounds: packed::fifth(number),
+        }),
+        Some(refusal) => Err(refusal),
     }
 }
 
@@ -104,29 +112,32 @@ pub fn build(
 /// or not. At a configuration that is not kept there are none.
 ///
 /// ```
-/// use bridge::{ask, Configuration};
+/// use bridge::{ask, Configuration, Rule};
 ///
 /// let writer = [1, 0, 11, 1, 1, 0, 0, 1, 1, 0, 0, 0, 0, 0];
 /// let mut reader = writer;
 /// reader[3] = 2;
 /// let start = Configuration { writer: 0, reader: 0, level: 0 };
-/// assert!(ask(&writer, &reader, 0, &[1], start).unwrap().contains(0, 0));
-/// assert!(ask(&writer, &reader, 0, &[0], start).unwrap().is_empty());
-/// assert_eq!(ask(&writer, &reader, 0, &[2], start).unwrap_err().number, 12);
+/// let at_start = |kept: &[u8]| ask(&writer, &reader, 0, Rule::Registered, kept, start);
+/// assert!(at_start(&[1]).unwrap().contains(0, 0));
+/// assert!(at_start(&[0]).unwrap().is_empty());
+/// assert_eq!(at_start(&[2]).unwrap_err().number, 12);
 /// ```
 pub fn ask(
     writer: &[u8],
     reader: &[u8],
     bound: u64,
+    rule: Rule,
     kept: &[u8],
     at: Configuration,
 ) -> Result<Moves, Refusal> {
-    let set = packed::ask_set(writer, reader, bound, kept, at);
+    let rule = rule.number();
+    let set = packed::ask_set(writer, reader, bound, rule, kept, at);
     if set != 0 {
         return Ok(Moves::from_bits(set));
     }
     // A refusal's set is empty, and so may an answer's be: ask which it is.
-    match Refusal::of(packed::ask(writer, reader, bound, kept, at)) {
+    match Refusal::of(packed::ask(writer, reader, bound, rule, kept, at)) {
         None => Ok(Moves::default()),
         Some(refusal) => Err(refusal),
     }

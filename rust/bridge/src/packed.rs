@@ -1,7 +1,10 @@
 //! The entry points as they stand: one 64-bit number each.
 //!
-//! The number is number + 2^8 × side + 2^16 × row + 2^32 × kept + 2^48 ×
-//! rounds, with ask's count and lowest in the last two places.
+//! Each takes the number of the rule, 0 registered and 1 flow-through, right
+//! after the bound; a larger one is refused with 17.
+//!
+//! The number returned is number + 2^8 × side + 2^16 × row + 2^32 × kept +
+//! 2^48 × rounds, with ask's count and lowest in the last two places.
 
 use crate::Configuration;
 
@@ -13,6 +16,7 @@ mod entry {
             reader: *const u8,
             reader_len: usize,
             bound: u64,
+            rule: u64,
             buffer: *mut u8,
             buffer_len: usize,
         ) -> u64;
@@ -23,6 +27,7 @@ mod entry {
             reader: *const u8,
             reader_len: usize,
             bound: u64,
+            rule: u64,
             kept: *const u8,
             kept_len: usize,
             writer_state: u64,
@@ -36,6 +41,7 @@ mod entry {
             reader: *const u8,
             reader_len: usize,
             bound: u64,
+            rule: u64,
             kept: *const u8,
             kept_len: usize,
             writer_state: u64,
@@ -46,7 +52,7 @@ mod entry {
 }
 
 /// Build's packed number.
-pub fn build(writer: &[u8], reader: &[u8], bound: u64, buffer: &mut [u8]) -> u64 {
+pub fn build(writer: &[u8], reader: &[u8], bound: u64, rule: u64, buffer: &mut [u8]) -> u64 {
     // SAFETY: each pointer and length is one slice's, the lent buffer is
     // borrowed alone, and the function is proved for any bytes and numbers:
     // it has no `requires`, and reads and writes within the slices only.
@@ -57,6 +63,7 @@ pub fn build(writer: &[u8], reader: &[u8], bound: u64, buffer: &mut [u8]) -> u64
             reader.as_ptr(),
             reader.len(),
             bound,
+            rule,
             buffer.as_mut_ptr(),
             buffer.len(),
         )
@@ -64,7 +71,14 @@ pub fn build(writer: &[u8], reader: &[u8], bound: u64, buffer: &mut [u8]) -> u64
 }
 
 /// Ask's packed number.
-pub fn ask(writer: &[u8], reader: &[u8], bound: u64, kept: &[u8], at: Configuration) -> u64 {
+pub fn ask(
+    writer: &[u8],
+    reader: &[u8],
+    bound: u64,
+    rule: u64,
+    kept: &[u8],
+    at: Configuration,
+) -> u64 {
     // SAFETY: as in `build`; nothing is written.
     unsafe {
         entry::bridge_ask(
@@ -73,6 +87,7 @@ pub fn ask(writer: &[u8], reader: &[u8], bound: u64, kept: &[u8], at: Configurat
             reader.as_ptr(),
             reader.len(),
             bound,
+            rule,
             kept.as_ptr(),
             kept.len(),
             at.writer,
@@ -83,7 +98,14 @@ pub fn ask(writer: &[u8], reader: &[u8], bound: u64, kept: &[u8], at: Configurat
 }
 
 /// Ask's set, bit 8x + y for the move x.y; 0 at a refusal.
-pub fn ask_set(writer: &[u8], reader: &[u8], bound: u64, kept: &[u8], at: Configuration) -> u64 {
+pub fn ask_set(
+    writer: &[u8],
+    reader: &[u8],
+    bound: u64,
+    rule: u64,
+    kept: &[u8],
+    at: Configuration,
+) -> u64 {
     // SAFETY: as in `build`; nothing is written.
     unsafe {
         entry::bridge_ask_set(
@@ -92,6 +114,7 @@ pub fn ask_set(writer: &[u8], reader: &[u8], bound: u64, kept: &[u8], at: Config
             reader.as_ptr(),
             reader.len(),
             bound,
+            rule,
             kept.as_ptr(),
             kept.len(),
             at.writer,

@@ -15,8 +15,10 @@ pub enum Side {
 /// Why a call was refused.
 ///
 /// ```
-/// let refusal = bridge::build(&[1, 0, 6], &[], 0, &mut []).unwrap_err();
-/// assert_eq!((refusal.number, refusal.side, refusal.row), (1, Some(bridge::Side::Writer), 0));
+/// use bridge::{build, Rule, Side};
+///
+/// let refusal = build(&[1, 0, 6], &[], 0, Rule::Registered, &mut []).unwrap_err();
+/// assert_eq!((refusal.number, refusal.side, refusal.row), (1, Some(Side::Writer), 0));
 /// let error: Box<dyn std::error::Error> = refusal.into();
 /// assert_eq!(
 ///     error.to_string(),
@@ -25,7 +27,7 @@ pub enum Side {
 /// ```
 #[derive(Clone, Copy, Debug, PartialEq, Eq, Hash)]
 pub struct Refusal {
-    /// The number of the refusal, 1 to 16.
+    /// The number of the refusal, 1 to 17.
     pub number: u8,
     /// The side whose table it is about, if it is about one.
     pub side: Option<Side>,
@@ -36,27 +38,39 @@ pub struct Refusal {
 }
 
 impl Refusal {
-    /// The refusal in a packed number, if it is one.
-    pub(crate) fn of(number: u64) -> Option<Refusal> {
+    /// The refusal in a packed number, if it is one: what [`packed::build`]
+    /// or [`packed::ask`] returned.
+    ///
+    /// ```
+    /// use bridge::{packed, Refusal};
+    ///
+    /// let writer = [1, 0, 6, 1, 1, 0, 0, 1, 0];
+    /// let reader = [1, 0, 6, 2, 1, 0, 0, 1, 0];
+    /// let number = packed::build(&writer, &reader, 0, 2, &mut [0]);
+    /// assert_eq!(
+    ///     Refusal::of(number).unwrap().to_string(),
+    ///     "the rule is above 1 (refusal 17, side 0, row 0)"
+    /// );
+    /// assert_eq!(Refusal::of(packed::build(&writer, &reader, 0, 1, &mut [0])), None);
+    /// ```
+    pub fn of(number: u64) -> Option<Refusal> {
         let side = match packed::side(number) {
             1 => Some(Side::Writer),
             2 => Some(Side::Reader),
             _ => None,
         };
-        match packed::number(number) {
-            0 => None,
-            refused => Some(Refusal {
-                number: refused,
-                side,
-                row: packed::row(number),
-                rounds: 0,
-            }),
-        }
-    }
-
-    /// The same, after this many rounds.
-    pub(crate) fn after(self, rounds: u64) -> Refusal {
-        Refusal { rounds, ..self }
+        // 11 is build's alone; in ask's number the place has another meaning.
+        let rounds = match packed::number(number) {
+            0 => return None,
+            11 => packed::fifth(number),
+            _ => 0,
+        };
+        Some(Refusal {
+            number: packed::number(number),
+            side,
+            row: packed::row(number),
+            rounds,
+        })
     }
 
     /// 0 for no side, 1 for the writer, 2 for the reader.
@@ -101,6 +115,7 @@ impl fmt::Display for Refusal {
             11 => write!(f, "there is no bridge: the start is not in the largest set")?,
             12 => write!(f, "one of the kept bytes is neither 0 nor 1")?,
             13 => write!(f, "there is no such configuration")?,
+            17 => write!(f, "the rule is above 1")?,
             _ => write!(f, "{} {}", self.whose(), self.reason())?,
         }
         let (number, side, row) = (self.number, self.side_number(), self.row);

@@ -1,4 +1,4 @@
-//! Random pairs, small and large, on both builders.
+//! Random pairs, small and large, on both builders and under both rules.
 
 mod compare;
 
@@ -9,24 +9,30 @@ use inputs::*;
 /// built, of another length too.
 #[test]
 fn small_pairs() {
-    let mut random = seeded(20261108);
     let mut compared = Compared::new();
-    for _ in 0..30_000 {
-        let pair = small_pair(&mut random);
-        let before = patterned(pair.count() + random.below(4) as usize);
-        let (_, kept) = compared.build(&pair, &before);
-        compared.ask_everywhere(&pair, &kept);
-        let kept = kept_bytes(&mut random, pair.count());
-        for _ in 0..4 {
-            let at = configuration(&mut random, &pair);
-            compared.ask(&pair, &kept, at);
+    for rule in RULES {
+        let mut random = seeded(20261108 + rule);
+        for _ in 0..30_000 {
+            let pair = small_pair(&mut random, rule);
+            let before = patterned(pair.count() + random.below(4) as usize);
+            let (_, kept) = compared.build(&pair, &before);
+            compared.ask_everywhere(&pair, &kept);
+            let kept = kept_bytes(&mut random, pair.count());
+            for _ in 0..4 {
+                let at = configuration(&mut random, &pair);
+                compared.ask(&pair, &kept, at);
+            }
         }
     }
     compared.print("small random pairs");
-    assert!(compared.builds() >= 20_000);
-    assert!(compared.met("build", 0, 0) >= 9_000 && compared.met("build", 11, 0) >= 5_000);
-    for number in [0, 10, 12, 13] {
-        assert!(compared.met("ask", number, 0) >= 1_000, "ask {number}");
+    for rule in RULES {
+        assert!(compared.builds(rule) >= 30_000);
+        assert!(compared.met_under(rule, "build", 0, 0) >= 9_000);
+        assert!(compared.met_under(rule, "build", 11, 0) >= 5_000);
+        for number in [0, 10, 12, 13] {
+            let met = compared.met_under(rule, "ask", number, 0);
+            assert!(met >= 1_000, "ask {number} under rule {rule}");
+        }
     }
 }
 
@@ -36,15 +42,17 @@ fn small_pairs() {
 fn large_pairs() {
     let mut compared = Compared::new();
     for letters in [8, 4, 2, 1] {
-        let mut random = seeded(100 + u64::from(letters));
-        for _ in 0..40 {
-            let pair = large_pair(&mut random, letters);
-            let (_, built) = compared.build(&pair, &patterned(4_100));
-            let other = kept_bytes(&mut random, pair.count());
-            for _ in 0..100 {
-                let at = configuration(&mut random, &pair);
-                compared.ask(&pair, &built, at);
-                compared.ask(&pair, &other, at);
+        for rule in RULES {
+            let mut random = seeded(100 + u64::from(letters) + 1000 * rule);
+            for _ in 0..40 {
+                let pair = large_pair(&mut random, letters, rule);
+                let (_, built) = compared.build(&pair, &patterned(4_100));
+                let other = kept_bytes(&mut random, pair.count());
+                for _ in 0..100 {
+                    let at = configuration(&mut random, &pair);
+                    compared.ask(&pair, &built, at);
+                    compared.ask(&pair, &other, at);
+                }
             }
         }
     }
@@ -55,18 +63,20 @@ fn large_pairs() {
 #[test]
 fn pairs_by_construction() {
     let mut compared = Compared::new();
-    for pair in chains() {
-        compared.build(&pair, &patterned(4_096));
-    }
-    for bound in [1, 2, 15] {
-        for upward in [false, true] {
-            compared.build(&long_way(bound, upward), &patterned(4_096));
+    for rule in RULES {
+        for pair in chains(rule) {
+            compared.build(&pair, &patterned(4_096));
         }
-    }
-    for (pair, rounds) in many_rounds() {
-        let (built, kept) = compared.build(&pair, &patterned(4_096));
-        assert_eq!(built.rounds, rounds);
-        compared.ask(&pair, &kept, (0, 0, 0));
+        for bound in [1, 2, 15] {
+            for upward in [false, true] {
+                compared.build(&long_way(bound, upward, rule), &patterned(4_096));
+            }
+        }
+        for (pair, rounds) in many_rounds(rule) {
+            let (built, kept) = compared.build(&pair, &patterned(4_096));
+            assert_eq!(built.rounds, rounds);
+            compared.ask(&pair, &kept, (0, 0, 0));
+        }
     }
     compared.print("chains, long ways and many rounds");
 }

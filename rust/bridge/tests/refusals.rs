@@ -19,7 +19,9 @@ fn damaged_pairs() {
         compared.ask(&pair, &vec![1; room], (random.below(5), 0, 0));
     }
     compared.print("damaged pairs");
-    assert!(compared.builds() >= 20_000);
+    for rule in RULES {
+        assert!(compared.builds(rule) >= 15_000);
+    }
     for call in ["build", "ask"] {
         for number in 1..=8 {
             for side in 1..=2 {
@@ -29,7 +31,7 @@ fn damaged_pairs() {
                 );
             }
         }
-        for number in [0, 9, 10] {
+        for number in [0, 9, 10, 17] {
             assert!(compared.met(call, number, 0) >= 20, "{call} {number}");
         }
     }
@@ -44,8 +46,8 @@ fn prefixes_and_single_changes() {
     let mut random = seeded(20261110);
     let mut compared = Compared::new();
     let buffer = patterned(64);
-    for _ in 0..12 {
-        let good = small_pair(&mut random);
+    for rule in RULES.repeat(6) {
+        let good = small_pair(&mut random, rule);
         let tables = prefixes(&good.writer).chain(single_changes(&good.writer));
         for writer in tables {
             compared.build(
@@ -70,8 +72,39 @@ fn prefixes_and_single_changes() {
     compared.print("prefixes and single changes");
 }
 
-/// 0 to 255 rows, bounds to the largest, buffers of no, N - 1, N and N + 7
-/// bytes; what stands in the buffer is compared whole.
+/// Every number that is no rule, on good pairs: with good and bad bounds, with
+/// buffers of any length, at configurations in range and out of it.
+#[test]
+fn numbers_that_are_no_rule() {
+    let mut random = seeded(20261111);
+    let mut compared = Compared::new();
+    for _ in 0..200 {
+        for rule in NO_RULES {
+            let mut pair = small_pair(&mut random, rule);
+            let room = random.pick(&[0, pair.count() - 1, pair.count(), 4_096]);
+            let at = configuration(&mut random, &pair);
+            if random.chance(20) {
+                pair.bound = random.pick(&[16, 257, u64::MAX]);
+            }
+            let (_, left) = compared.build(&pair, &patterned(room));
+            assert_eq!(left, patterned(room));
+            compared.ask(&pair, &left, at);
+            compared.ask(&pair, &vec![1; room], at);
+        }
+    }
+    compared.print("numbers that are no rule");
+    for rule in NO_RULES {
+        for number in [9, 17] {
+            assert!(compared.met_under(rule, "build", number, 0) >= 20);
+            assert!(compared.met_under(rule, "ask", number, 0) >= 20);
+        }
+        let met = [9, 17].map(|number| compared.met_under(rule, "build", number, 0));
+        assert_eq!(met.iter().sum::<u64>(), 200);
+    }
+}
+
+/// 0 to 255 rows, bounds and rules to the largest, buffers of no, N - 1, N and
+/// N + 7 bytes; what stands in the buffer is compared whole.
 #[test]
 fn limit_calls() {
     let mut compared = Compared::new();
@@ -80,7 +113,7 @@ fn limit_calls() {
         compared.ask(&call.pair, &left, (0, 0, 0));
     }
     compared.print("limits");
-    for (number, side) in [(0, 0), (5, 1), (5, 2), (9, 0), (10, 0)] {
+    for (number, side) in [(0, 0), (5, 1), (5, 2), (9, 0), (17, 0), (10, 0)] {
         assert!(
             compared.met("build", number, side) > 0,
             "build {number} side {side}"
@@ -96,6 +129,7 @@ fn very_long_tables() {
         writer: vec![1, 0, 6, 1, 1, 0, 0, 1, 0],
         reader: vec![1, 0, 6, 2, 1, 0, 0, 1, 0],
         bound: 0,
+        rule: 0,
     };
     for length in [334, 1_284, 65_538, 65_545, 131_081] {
         let mut pair = good.clone();

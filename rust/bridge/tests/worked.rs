@@ -1,36 +1,63 @@
-//! The worked cases of document 01, on both builders and through the wrapper.
+//! The worked cases of document 01, which are registered, and those of
+//! flow-through, on both builders and through the wrapper.
 
 mod compare;
 
-use bridge::{ask, build, Built, Configuration, Moves, Refusal};
+use bridge::Rule::{FlowThrough, Registered};
+use bridge::{ask, build, Built, Configuration, Moves, Refusal, Rule};
 use compare::Compared;
 use inputs::Pair;
 use second::worked::*;
 
-/// Writer, reader, bound; what build gives; the places that are kept.
+/// Writer, reader, bound, rule; what build gives; the places that are kept.
 type Case = (
     &'static [u8],
     &'static [u8],
     u64,
+    Rule,
     Result<(u64, u64), u64>,
     &'static [usize],
 );
 
-/// Cases 1 to 7.
-const CASES: [Case; 7] = [
-    (&A_WRITER, &A_READER, 0, Err(2), &[]),
-    (&A_WRITER, &A_READER, 1, Ok((3, 2)), &[0, 5, 6]),
-    (&A_WRITER, &A_READER, 2, Ok((3, 2)), &[0, 7, 9]),
-    (&C_WRITER, &C_READER, 1, Err(3), &[]),
+const ALL_BUT_8: &[usize] = &[0, 1, 2, 3, 4, 5, 6, 7];
+
+/// Cases 1 to 7, and the same pairs under flow-through.
+const CASES: [Case; 14] = [
+    (&A_WRITER, &A_READER, 0, Registered, Err(2), &[]),
+    (&A_WRITER, &A_READER, 1, Registered, Ok((3, 2)), &[0, 5, 6]),
+    (&A_WRITER, &A_READER, 2, Registered, Ok((3, 2)), &[0, 7, 9]),
+    (&C_WRITER, &C_READER, 1, Registered, Err(3), &[]),
+    (&C_WRITER, &C_READER, 2, Registered, Ok((8, 2)), ALL_BUT_8),
+    (&BARE_WRITER, &BARE_READER, 0, Registered, Ok((1, 1)), &[0]),
+    (&BARE_WRITER, &BARE_READER, 15, Registered, Ok((1, 2)), &[0]),
+    (&A_WRITER, &A_READER, 0, FlowThrough, Ok((2, 2)), &[0, 3]),
+    (&A_WRITER, &A_READER, 1, FlowThrough, Ok((3, 2)), &[0, 5, 6]),
+    (&A_WRITER, &A_READER, 2, FlowThrough, Ok((3, 2)), &[0, 7, 9]),
+    (
+        &C_WRITER,
+        &C_READER,
+        1,
+        FlowThrough,
+        Ok((6, 1)),
+        &[0, 1, 2, 3, 4, 5],
+    ),
     (
         &C_WRITER,
         &C_READER,
         2,
-        Ok((8, 2)),
-        &[0, 1, 2, 3, 4, 5, 6, 7],
+        FlowThrough,
+        Ok((9, 1)),
+        &[0, 1, 2, 3, 4, 5, 6, 7, 8],
     ),
-    (&BARE_WRITER, &BARE_READER, 0, Ok((1, 1)), &[0]),
-    (&BARE_WRITER, &BARE_READER, 15, Ok((1, 2)), &[0]),
+    (&BARE_WRITER, &BARE_READER, 0, FlowThrough, Ok((1, 1)), &[0]),
+    (
+        &BARE_WRITER,
+        &BARE_READER,
+        15,
+        FlowThrough,
+        Ok((1, 2)),
+        &[0],
+    ),
 ];
 
 fn no_bridge(rounds: u64) -> Refusal {
@@ -45,11 +72,12 @@ fn no_bridge(rounds: u64) -> Refusal {
 #[test]
 fn cases() {
     let mut compared = Compared::new();
-    for (writer, reader, bound, expected, places) in CASES {
+    for (writer, reader, bound, rule, expected, places) in CASES {
         let pair = Pair {
             writer: writer.to_vec(),
             reader: reader.to_vec(),
             bound,
+            rule: rule.number(),
         };
         let n = pair.count();
         let (_, bytes) = compared.build(&pair, &[0xEE; 64][..n + 3]);
@@ -59,7 +87,7 @@ fn cases() {
         compared.ask_everywhere(&pair, &bytes);
 
         let mut buffer = vec![9; n];
-        let built = build(writer, reader, bound, &mut buffer);
+        let built = build(writer, reader, bound, rule, &mut buffer);
         let expected = expected.map(|(kept, rounds)| Built { kept, rounds });
         assert_eq!(built, expected.map_err(no_bridge));
     }
@@ -74,21 +102,27 @@ fn sets() {
         level,
     };
     let mut kept = [0; 9];
-    build(&A_WRITER, &A_READER, 1, &mut kept).unwrap();
-    for (at, set) in [
-        (at(0, 0, 0), 257),
-        (at(1, 0, 1), 3),
-        (at(1, 1, 0), 1),
-        (at(0, 0, 1), 0),
+    build(&A_WRITER, &A_READER, 1, Registered, &mut kept).unwrap();
+    for (at, registered, flow_through) in [
+        (at(0, 0, 0), 257, 257 + (1 << 9)),
+        (at(1, 0, 1), 3, 3),
+        (at(1, 1, 0), 1, 1),
+        (at(0, 0, 1), 0, 0),
     ] {
-        let moves = ask(&A_WRITER, &A_READER, 1, &kept, at);
-        assert_eq!(moves, Ok(Moves::from_bits(set)));
+        for (rule, set) in [(Registered, registered), (FlowThrough, flow_through)] {
+            let moves = ask(&A_WRITER, &A_READER, 1, rule, &kept, at);
+            assert_eq!(moves, Ok(Moves::from_bits(set)));
+        }
     }
-    build(&C_WRITER, &C_READER, 2, &mut kept).unwrap();
-    let moves = ask(&C_WRITER, &C_READER, 2, &kept, at(0, 0, 1)).unwrap();
+    build(&C_WRITER, &C_READER, 2, Registered, &mut kept).unwrap();
+    let ask_c = |rule, at| ask(&C_WRITER, &C_READER, 2, rule, &kept, at);
+    let moves = ask_c(Registered, at(0, 0, 1)).unwrap();
     assert_eq!(moves.bits(), 515);
     assert_eq!(moves.iter().collect::<Vec<_>>(), [(0, 0), (0, 1), (1, 1)]);
-    let outside = ask(&C_WRITER, &C_READER, 2, &kept, at(0, 1, 0)).unwrap_err();
+    // Place 8, the burst at a full buffer, is not among these bytes.
+    let moves = ask_c(FlowThrough, at(0, 0, 2)).unwrap();
+    assert_eq!(moves.iter().collect::<Vec<_>>(), [(0, 0), (0, 1)]);
+    let outside = ask_c(Registered, at(0, 1, 0)).unwrap_err();
     assert_eq!(
         outside.to_string(),
         "there is no such configuration (refusal 13, side 0, row 0)"

@@ -1,8 +1,8 @@
 //! A search for pairs with many rounds, by hill climbing over small changes:
-//! `cargo run --release --offline --example search -- KIND SEED SECONDS`,
+//! `cargo run --release --offline --example search -- KIND SEED SECONDS RULE`,
 //! where KIND is `dense` (from random pairs of full size), `small` (from
 //! random pairs of up to 6 states a side), or `clocks` (from two clocks with
-//! a spare state). Prints each best pair found.
+//! a spare state), and RULE is 0 or 1. Prints each best pair found.
 
 use inputs::{clocks, hex_pair, large_pair, Pair, Parts, Random};
 use second::builder::largest;
@@ -14,15 +14,17 @@ struct Found {
     writer: Parts,
     reader: Parts,
     bound: u64,
+    rule: u64,
     rounds: u64,
 }
 
 impl Found {
-    fn of(writer: Parts, reader: Parts, bound: u64) -> Found {
+    fn of(writer: Parts, reader: Parts, bound: u64, rule: u64) -> Found {
         let mut found = Found {
             writer,
             reader,
             bound,
+            rule,
             rounds: 0,
         };
         found.measure();
@@ -30,12 +32,12 @@ impl Found {
     }
 
     fn pair(&self) -> Pair {
-        Pair::of(&self.writer, &self.reader, self.bound)
+        Pair::of(&self.writer, &self.reader, self.bound, self.rule)
     }
 
     fn measure(&mut self) {
         let pair = self.pair();
-        let pair = second::Pair::read(&pair.writer, &pair.reader, pair.bound).unwrap();
+        let pair = second::Pair::read(&pair.writer, &pair.reader, pair.bound, pair.rule).unwrap();
         self.rounds = largest(&pair).rounds;
     }
 }
@@ -45,11 +47,12 @@ fn main() {
     let kind = arguments[1].as_str();
     let mut random = Random::new(arguments[2].parse().unwrap());
     let seconds = Duration::from_secs(arguments[3].parse().unwrap());
-    println!("{kind}, seed {}, {seconds:?}", random.seed());
+    let rule = arguments[4].parse().unwrap();
+    println!("{kind}, seed {}, {seconds:?}, rule {rule}", random.seed());
     let begun = Instant::now();
     let (mut best, mut tries) = (0, 0u64);
     while begun.elapsed() < seconds {
-        let mut here = first(&mut random, kind);
+        let mut here = first(&mut random, kind, rule);
         let mut idle = 0;
         while begun.elapsed() < seconds && idle < 400 {
             tries += 1;
@@ -72,23 +75,23 @@ fn main() {
 }
 
 /// Where a climb begins: the best of a few.
-fn first(random: &mut Random, kind: &str) -> Found {
+fn first(random: &mut Random, kind: &str, rule: u64) -> Found {
     let mut best: Option<Found> = None;
     for _ in 0..10 {
         let found = match kind {
             "dense" => {
                 let letters = random.byte_from_to(1, 3);
-                let pair = large_pair(random, letters);
-                Found::of(Parts::of(&pair.writer), Parts::of(&pair.reader), 15)
+                let pair = large_pair(random, letters, rule);
+                Found::of(Parts::of(&pair.writer), Parts::of(&pair.reader), 15, rule)
             }
             "small" => {
                 let writer = random_side(random, 1);
                 let reader = random_side(random, 2);
-                Found::of(writer, reader, 15)
+                Found::of(writer, reader, 15, rule)
             }
             _ => {
-                let pair = clocks(16, 15, 2);
-                Found::of(Parts::of(&pair.writer), Parts::of(&pair.reader), 2)
+                let pair = clocks(16, 15, 2, rule);
+                Found::of(Parts::of(&pair.writer), Parts::of(&pair.reader), 2, rule)
             }
         };
         if best.as_ref().is_none_or(|b| b.rounds < found.rounds) {

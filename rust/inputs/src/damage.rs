@@ -1,11 +1,13 @@
 //! Damaged tables.
 
-use crate::pairs::{small_pair, Pair};
+use crate::pairs::{small_pair, Pair, NO_RULES, RULES};
 use crate::random::Random;
 
-/// A good pair of which one side, or at times both, is damaged.
+/// A good pair under either rule of which one side, or at times both, is
+/// damaged; at times its bound or its rule is out of range too.
 pub fn damaged_pair(random: &mut Random) -> Pair {
-    let mut pair = small_pair(random);
+    let rule = random.pick(&RULES);
+    let mut pair = small_pair(random, rule);
     let which = random.below(5);
     if which != 0 {
         pair.writer = damaged_table(random, &pair.writer);
@@ -15,6 +17,9 @@ pub fn damaged_pair(random: &mut Random) -> Pair {
     }
     if random.chance(10) {
         pair.bound = random.pick(&[15, 16, 257, u64::MAX]);
+    }
+    if random.chance(10) {
+        pair.rule = random.pick(&NO_RULES);
     }
     pair
 }

@@ -21,6 +21,7 @@ pub use limits::{buffers, limits, patterned, Call};
 pub use listings::listing_input;
 pub use many_rounds::{many_rounds, ManyRounds, MANY_ROUNDS};
 pub use pairs::{chains, clocks, large_pair, long_way, small_pair, Pair};
+pub use pairs::{FLOW_THROUGH, NO_RULES, REGISTERED, RULES};
 pub use questions::{configuration, cycle, kept_bytes, run, Cycle, Run};
 pub use random::Random;
 pub use tables::Parts;
@@ -34,9 +35,10 @@ pub fn hex(bytes: &[u8]) -> String {
 /// A pair as bytes in hex, for the message of a failure.
 pub fn hex_pair(pair: &Pair) -> String {
     format!(
-        "writer: {}\nreader: {}\nbound: {}",
+        "writer: {}\nreader: {}\nbound: {}\nrule: {}",
         hex(&pair.writer),
         hex(&pair.reader),
-        pair.bound
+        pair.bound,
+        pair.rule
     )
 }

@@ -1,4 +1,4 @@
-//! Calls at the limits: counts of rows, bounds and buffers.
+//! Calls at the limits: counts of rows, bounds, rules and buffers.
 
 use crate::pairs::Pair;
 use crate::tables::Parts;
@@ -27,32 +27,42 @@ pub fn buffers(n: usize) -> Vec<Vec<u8>> {
 /// The bounds at the limit: "bound 15 passes and 16 gives 9".
 pub const BOUNDS: [u64; 6] = [0, 15, 16, 256, 257, u64::MAX];
 
+/// Both rules, and numbers above 1.
+pub const LIMIT_RULES: [u64; 4] = [0, 1, 2, 257];
+
 /// "64 rows pass and 65 with a true length give 5; bound 15 passes and 16
-/// gives 9; N - 1 bytes give 10."
+/// gives 9; N - 1 bytes give 10." Rule 1 passes and 2 gives 17.
 pub fn limits() -> Vec<Call> {
     let mut calls = Vec::new();
     for rows in [0, 1, 63, 64, 65, 66, 255] {
-        for bound in BOUNDS {
-            for (writer_rows, reader_rows) in [(rows, 2), (2, rows), (rows, rows)] {
+        for (writer_rows, reader_rows) in [(rows, 2), (2, rows), (rows, rows)] {
+            for (bound, rule) in bounds_and_rules() {
                 let pair = Pair {
                     writer: many_rows(1, writer_rows),
                     reader: many_rows(2, reader_rows),
                     bound,
+                    rule,
                 };
-                for buffer in buffers(16 * 16 * (bound.min(15) as usize + 1)) {
-                    calls.push(Call {
-                        name: format!(
-                            "rows {writer_rows} and {reader_rows}, bound {bound}, buffer {}",
-                            buffer.len()
-                        ),
-                        pair: pair.clone(),
-                        buffer,
-                    });
-                }
+                let n = 16 * 16 * (bound.min(15) as usize + 1);
+                calls.extend(buffers(n).into_iter().map(|buffer| Call {
+                    name: format!(
+                        "rows {writer_rows} and {reader_rows}, bound {bound}, rule {rule}, buffer {}",
+                        buffer.len()
+                    ),
+                    pair: pair.clone(),
+                    buffer,
+                }));
             }
         }
     }
     calls
+}
+
+/// Each bound at the limit with each rule at the limit.
+fn bounds_and_rules() -> impl Iterator<Item = (u64, u64)> {
+    BOUNDS
+        .into_iter()
+        .flat_map(|bound| LIMIT_RULES.map(|rule| (bound, rule)))
 }
 
 /// 16 states and this many rows with a true length, the first two letters of

@@ -1,37 +1,45 @@
 //! Inputs of the listing program.
 
 use crate::damage::damaged_table;
-use crate::pairs::{small_pair, Pair};
+use crate::pairs::{small_pair, Pair, RULES};
 use crate::random::Random;
 
-/// A random input: two tables and a bound byte, whole, cut, damaged, with a
-/// trailing newline, or longer than 1,024 bytes; at times no input or noise.
+/// A random input: two tables, a bound byte and a rule byte, whole, without
+/// the last or the last two, cut, damaged, with later bytes, or longer than
+/// 1,024 bytes; at times no input or noise.
 pub fn listing_input(random: &mut Random) -> Vec<u8> {
-    let pair = small_pair(random);
+    let rule = random.pick(&RULES);
+    let pair = small_pair(random, rule);
     let whole = joined(&pair);
-    match random.below(20) {
+    let tables = pair.writer.len() + pair.reader.len();
+    match random.below(24) {
         0..=7 => whole,
-        8..=10 => cut(random, whole),
-        11..=12 => damaged_input(random, &pair),
-        13 => one_byte(random, whole),
-        14 => [whole, vec![b'\n']].concat(),
-        15 => long(random, &pair),
-        16 => [&pair.writer[..], &pair.reader, &[random.byte()]].concat(),
-        17 => long_reader(random, &pair),
-        18 => noise(random),
+        8 => whole[..tables + 1].to_vec(),
+        9 => whole[..tables].to_vec(),
+        10..=12 => cut(random, whole),
+        13..=14 => damaged_input(random, &pair),
+        15 => one_byte(random, whole),
+        16 => [whole, noise(random)].concat(),
+        17 => long(random, &pair),
+        18 => any_byte(random, whole, tables),
+        19 => any_byte(random, whole, tables + 1),
+        20 => long_reader(random, &pair),
+        21 => noise(random),
+        22 => wrong_cut(random, whole, pair.writer.len()),
         _ => {
             if random.chance(10) {
                 Vec::new()
             } else {
-                wrong_cut(random, whole)
+                wrong_cut(random, whole, 0)
             }
         }
     }
 }
 
-/// Writer table, reader table, bound byte.
+/// Writer table, reader table, bound byte, rule byte.
 pub fn joined(pair: &Pair) -> Vec<u8> {
-    [&pair.writer[..], &pair.reader, &[pair.bound as u8]].concat()
+    let last = [pair.bound as u8, pair.rule as u8];
+    [&pair.writer[..], &pair.reader, &last].concat()
 }
 
 /// A prefix.
@@ -55,8 +63,13 @@ fn damaged_input(random: &mut Random, pair: &Pair) -> Vec<u8> {
 }
 
 /// One byte changed.
-fn one_byte(random: &mut Random, mut input: Vec<u8>) -> Vec<u8> {
+fn one_byte(random: &mut Random, input: Vec<u8>) -> Vec<u8> {
     let place = random.below(input.len() as u64) as usize;
+    any_byte(random, input, place)
+}
+
+/// Any byte at this place.
+fn any_byte(random: &mut Random, mut input: Vec<u8>, place: usize) -> Vec<u8> {
     input[place] = random.byte();
     input
 }
@@ -75,7 +88,7 @@ fn long(random: &mut Random, pair: &Pair) -> Vec<u8> {
 fn long_reader(random: &mut Random, pair: &Pair) -> Vec<u8> {
     let total = random.pick(&[1020, 1024, 1030, 1100]);
     let seen = random.pick(&[total, 1024]);
-    let rows = (seen - pair.writer.len() - 1 - 9) / 5;
+    let rows = (seen - pair.writer.len() - 9) / 5;
     let length = 6 + 5 * rows;
     let mut input = pair.writer.clone();
     input.extend([1, (length / 256) as u8, (length % 256) as u8]);
@@ -90,13 +103,14 @@ fn noise(random: &mut Random) -> Vec<u8> {
     (0..length).map(|_| random.byte_below(20)).collect()
 }
 
-/// A length field of the writer that cuts elsewhere.
-fn wrong_cut(random: &mut Random, mut input: Vec<u8>) -> Vec<u8> {
+/// A length field that cuts elsewhere, of the table that begins here.
+fn wrong_cut(random: &mut Random, mut input: Vec<u8>, table: usize) -> Vec<u8> {
     let by = random.byte_from_to(1, 30);
-    input[2] = if random.chance(50) {
-        input[2].wrapping_add(by)
+    let low = &mut input[table + 2];
+    *low = if random.chance(50) {
+        low.wrapping_add(by)
     } else {
-        input[2].wrapping_sub(by)
+        low.wrapping_sub(by)
     };
     input
 }

@@ -12,15 +12,15 @@ pub struct ManyRounds {
     pub reader: &'static [u8],
     /// The bound.
     pub bound: u64,
-    /// The rounds, as our second builder measured them.
-    pub rounds: u64,
+    /// The rounds under rules 0 and 1, as our second builder measured them.
+    pub rounds: [u64; 2],
 }
 
 /// Pairs by construction (two clocks, see [`crate::pairs::clocks`]) and pairs
 /// that hill climbing found (`examples/search.rs`, with kind, seed and
 /// seconds).
 pub const MANY_ROUNDS: &[ManyRounds] = &[
-    // N = 4096: measured 3601 rounds.
+    // N = 4096: measured 3601 and 3631 rounds.
     ManyRounds {
         name: "clocks 16 and 15, refused with 11",
         writer: &[
@@ -42,9 +42,9 @@ pub const MANY_ROUNDS: &[ManyRounds] = &[
             14, 0, 0, 0, 13, 14, 0, 1, 0, 15, 15, 0, 0, 0, 15, 15, 1, 0, 1, 15, //
         ],
         bound: 15,
-        rounds: 3601,
+        rounds: [3601, 3631],
     },
-    // N = 4096: measured 3601 rounds.
+    // N = 4096: measured 3601 and 3631 rounds.
     ManyRounds {
         name: "clocks 16 and 15, begun at the reader's end state, accepted",
         writer: &[
@@ -66,9 +66,9 @@ pub const MANY_ROUNDS: &[ManyRounds] = &[
             14, 0, 0, 0, 13, 14, 0, 1, 0, 15, 15, 0, 0, 0, 15, 15, 1, 0, 1, 15, //
         ],
         bound: 15,
-        rounds: 3601,
+        rounds: [3601, 3631],
     },
-    // N = 4096: measured 3601 rounds.
+    // N = 4096: measured 3601 and 3631 rounds.
     ManyRounds {
         name: "clocks 15 and 16, the writer with the end state, refused with 11",
         writer: &[
@@ -90,9 +90,9 @@ pub const MANY_ROUNDS: &[ManyRounds] = &[
             12, 0, 0, 0, 11, 13, 0, 0, 0, 12, 14, 0, 0, 0, 13, 15, 0, 0, 0, 14, //
         ],
         bound: 15,
-        rounds: 3601,
+        rounds: [3601, 3631],
     },
-    // N = 4096: measured 723 rounds.
+    // N = 4096: measured 723 and 743 rounds.
     ManyRounds {
         name: "`search dense 1 200`, full size",
         writer: &[
@@ -133,9 +133,9 @@ pub const MANY_ROUNDS: &[ManyRounds] = &[
             15, 1, 1, 0, 3, 15, 1, 5, 0, 0, //
         ],
         bound: 15,
-        rounds: 723,
+        rounds: [723, 743],
     },
-    // N = 4096: measured 528 rounds.
+    // N = 4096: measured 528 and 550 rounds.
     ManyRounds {
         name: "`search dense 2 200`, full size",
         writer: &[
@@ -171,9 +171,9 @@ pub const MANY_ROUNDS: &[ManyRounds] = &[
             15, 1, 2, 0, 4, //
         ],
         bound: 15,
-        rounds: 528,
+        rounds: [528, 550],
     },
-    // N = 480: measured 310 rounds.
+    // N = 480: measured 310 and 339 rounds.
     ManyRounds {
         name: "`search small 1 60`, 6 by 5 states",
         writer: &[
@@ -195,9 +195,9 @@ pub const MANY_ROUNDS: &[ManyRounds] = &[
             4, 1, 2, 0, 2, 4, 1, 3, 1, 0, //
         ],
         bound: 15,
-        rounds: 310,
+        rounds: [310, 339],
     },
-    // N = 80: measured 49 rounds.
+    // N = 80: measured 49 and 55 rounds.
     ManyRounds {
         name: "clocks 4 and 3, refused with 11",
         writer: &[
@@ -210,9 +210,9 @@ pub const MANY_ROUNDS: &[ManyRounds] = &[
             2, 0, 0, 0, 1, 2, 0, 1, 0, 3, 3, 0, 0, 0, 3, 3, 1, 0, 1, 3, //
         ],
         bound: 4,
-        rounds: 49,
+        rounds: [49, 55],
     },
-    // N = 80: measured 49 rounds.
+    // N = 80: measured 49 and 55 rounds.
     ManyRounds {
         name: "clocks 4 and 3, begun at the reader's end state, accepted",
         writer: &[
@@ -225,19 +225,31 @@ pub const MANY_ROUNDS: &[ManyRounds] = &[
             2, 0, 0, 0, 1, 2, 0, 1, 0, 3, 3, 0, 0, 0, 3, 3, 1, 0, 1, 3, //
         ],
         bound: 4,
-        rounds: 49,
+        rounds: [49, 55],
     },
 ];
 
-/// These pairs as pairs, each with its number of rounds.
-pub fn many_rounds() -> Vec<(Pair, u64)> {
-    let pair = |found: &ManyRounds| Pair {
-        writer: found.writer.to_vec(),
-        reader: found.reader.to_vec(),
-        bound: found.bound,
-    };
+impl ManyRounds {
+    /// The pair under a rule.
+    pub fn pair(&self, rule: u64) -> Pair {
+        Pair {
+            writer: self.writer.to_vec(),
+            reader: self.reader.to_vec(),
+            bound: self.bound,
+            rule,
+        }
+    }
+
+    /// Its rounds under a rule.
+    pub fn rounds_under(&self, rule: u64) -> u64 {
+        self.rounds[rule as usize]
+    }
+}
+
+/// These pairs as pairs under a rule, each with its number of rounds.
+pub fn many_rounds(rule: u64) -> Vec<(Pair, u64)> {
     MANY_ROUNDS
         .iter()
-        .map(|found| (pair(found), found.rounds))
+        .map(|found| (found.pair(rule), found.rounds_under(rule)))
         .collect()
 }

@@ -3,7 +3,19 @@
 use crate::random::Random;
 use crate::tables::Parts;
 
-/// Two tables and a bound, as a call takes them.
+/// Rule 0, registered.
+pub const REGISTERED: u64 = 0;
+
+/// Rule 1, flow-through.
+pub const FLOW_THROUGH: u64 = 1;
+
+/// Both rules.
+pub const RULES: [u64; 2] = [REGISTERED, FLOW_THROUGH];
+
+/// Numbers that are no rule. The low bytes of two of them are one.
+pub const NO_RULES: [u64; 5] = [2, 255, 256, 257, u64::MAX];
+
+/// Two tables, a bound and a rule, as a call takes them.
 #[derive(Clone, Debug, PartialEq, Eq)]
 pub struct Pair {
     /// The writer's table in bytes.
@@ -12,15 +24,26 @@ pub struct Pair {
     pub reader: Vec<u8>,
     /// The bound.
     pub bound: u64,
+    /// The number of the rule.
+    pub rule: u64,
 }
 
 impl Pair {
     /// A pair of two tables in parts.
-    pub fn of(writer: &Parts, reader: &Parts, bound: u64) -> Pair {
+    pub fn of(writer: &Parts, reader: &Parts, bound: u64, rule: u64) -> Pair {
         Pair {
             writer: writer.bytes(),
             reader: reader.bytes(),
             bound,
+            rule,
+        }
+    }
+
+    /// The same tables and bound under another rule.
+    pub fn under(&self, rule: u64) -> Pair {
+        Pair {
+            rule,
+            ..self.clone()
         }
     }
 
@@ -31,9 +54,10 @@ impl Pair {
 }
 
 /// A random small good pair: states 1 to 4, letters 1 to 3, up to 8 rows a
-/// side, bounds 0 to 4. Several kinds by chance, tuned so that many are
-/// accepted and many refused with 11, after 2, 3 and more rounds.
-pub fn small_pair(random: &mut Random) -> Pair {
+/// side, bounds 0 to 4. Several kinds by chance, tuned so that under each rule
+/// many are accepted and many refused with 11, after 2, 3 and more rounds. The
+/// tables do not depend on the rule.
+pub fn small_pair(random: &mut Random, rule: u64) -> Pair {
     let kind = random.below(100);
     let bound = random.pick(&[0, 1, 1, 2, 2, 2, 3, 3, 4]);
     let (writer, reader) = match kind {
@@ -53,7 +77,7 @@ pub fn small_pair(random: &mut Random) -> Pair {
         // Small clocks, whole or nearly.
         _ => (worn_clock(random, 1), worn_clock(random, 2)),
     };
-    Pair::of(&writer, &reader, bound)
+    Pair::of(&writer, &reader, bound, rule)
 }
 
 /// A side without rows, of small size.
@@ -232,11 +256,11 @@ fn add_row(side: &mut Parts, row: [u8; 5]) {
 }
 
 /// A random pair of full size: 16 states a side, 64 rows a side, bound 15,
-/// with this many letters (1 to 8).
-pub fn large_pair(random: &mut Random, letters: u8) -> Pair {
+/// with this many letters (1 to 8). The tables do not depend on the rule.
+pub fn large_pair(random: &mut Random, letters: u8, rule: u64) -> Pair {
     let writer = large_side(random, 1, letters);
     let reader = large_side(random, 2, letters);
-    Pair::of(&writer, &reader, 15)
+    Pair::of(&writer, &reader, 15, rule)
 }
 
 /// 16 states and 64 rows; in half of the cases four rows a state.
@@ -272,7 +296,7 @@ fn large_side(random: &mut Random, role: u8, letters: u8) -> Parts {
 /// leading along, upward or downward on each side, with no items, with an
 /// item in each row, in every second, or in the last rows only. The last
 /// state holds itself, or has no row.
-pub fn chains() -> Vec<Pair> {
+pub fn chains(rule: u64) -> Vec<Pair> {
     let patterns: [fn(u8) -> u8; 4] = [|_| 0, |_| 1, |i| i % 2, |i| u8::from(i > 7)];
     let mut pairs = Vec::new();
     for (writer_down, reader_down) in [(false, false), (false, true), (true, false), (true, true)] {
@@ -281,7 +305,7 @@ pub fn chains() -> Vec<Pair> {
                 for ends in [true, false] {
                     let writer = chain_side(1, writer_down, writer_items, ends);
                     let reader = chain_side(2, reader_down, reader_items, ends);
-                    pairs.push(Pair::of(&writer, &reader, 15));
+                    pairs.push(Pair::of(&writer, &reader, 15, rule));
                 }
             }
         }
@@ -316,10 +340,10 @@ fn chain_side(role: u8, down: bool, items: fn(u8) -> u8, holds_at_end: bool) -> 
 /// the level drifts by one in each writer_period × reader_period cycles, and
 /// nearly all configurations are removed one by one: the longest sequences of
 /// rounds that we know.
-pub fn clocks(writer_period: u8, reader_period: u8, bound: u64) -> Pair {
+pub fn clocks(writer_period: u8, reader_period: u8, bound: u64, rule: u64) -> Pair {
     let writer = clock_side(1, writer_period, false);
     let reader = clock_side(2, reader_period, true);
-    Pair::of(&writer, &reader, bound)
+    Pair::of(&writer, &reader, bound, rule)
 }
 
 /// One clock: states 0 to period - 1, counted down, an item at 0, and the end
@@ -350,11 +374,11 @@ fn clock_side(role: u8, period: u8, has_end: bool) -> Parts {
 }
 
 /// Clocks of periods 16 and 15 without an end state, with the finish where
-/// both stand at 0. The level drifts down, and 240 × bound configurations lie
-/// on a single way, one after the other, to the finish: accepted after two
-/// rounds, with ways as long as the kept count less one. `upward` numbers the
-/// states the other way round.
-pub fn long_way(bound: u64, upward: bool) -> Pair {
+/// both stand at 0. The level drifts down, and 240 × bound configurations (15
+/// more under flow-through) lie on a single way, one after the other, to the
+/// finish: accepted after two rounds, with ways as long as the kept count less
+/// one. `upward` numbers the states the other way round.
+pub fn long_way(bound: u64, upward: bool, rule: u64) -> Pair {
     let mut writer = clock_side(1, 16, false);
     let mut reader = clock_side(2, 15, false);
     (writer.start, reader.start) = (0, 1);
@@ -362,7 +386,7 @@ pub fn long_way(bound: u64, upward: bool) -> Pair {
         turn(&mut writer);
         turn(&mut reader);
     }
-    Pair::of(&writer, &reader, bound)
+    Pair::of(&writer, &reader, bound, rule)
 }
 
 /// Numbers the states of a side the other way round.

@@ -2,13 +2,19 @@
 //! the shares.
 
 use inputs::*;
-use second::{ask, build, listing, read, Built, Side};
+use second::{ask, build, listing, read, Built, Configuration, Side};
 use std::collections::BTreeMap;
 
 /// Build into a buffer that is large enough for any pair.
 fn built(pair: &Pair) -> Built {
     let mut buffer = [0; 4096];
-    build(&pair.writer, &pair.reader, pair.bound, &mut buffer)
+    build(
+        &pair.writer,
+        &pair.reader,
+        pair.bound,
+        pair.rule,
+        &mut buffer,
+    )
 }
 
 /// Counts by key, printed as shares of `total`.
@@ -21,87 +27,135 @@ fn print_shares<K: std::fmt::Debug>(title: &str, shares: &BTreeMap<K, u64>) {
     }
 }
 
+/// Number and rounds of small pairs under a rule.
+struct Shares {
+    total: u64,
+    by_rounds: BTreeMap<(u64, String), u64>,
+}
+
+impl Shares {
+    /// Of 50,000 small pairs.
+    fn of_small_pairs(rule: u64) -> Shares {
+        let mut random = Random::new(20261115 + rule);
+        println!("seed {}, rule {rule}", random.seed());
+        let total = 50_000;
+        let (mut by_rounds, mut real) = (BTreeMap::new(), 0);
+        for _ in 0..total {
+            let pair = small_pair(&mut random, rule);
+            let result = built(&pair);
+            assert!(
+                result.number == 0 || result.number == 11,
+                "{}",
+                hex_pair(&pair)
+            );
+            let rounds = match result.rounds {
+                1..=5 => format!("rounds {}", result.rounds),
+                _ => "rounds 6 and more".to_string(),
+            };
+            *by_rounds.entry((result.number, rounds)).or_default() += 1;
+            let ends_apart = |table: &[u8]| table[5] != table[6];
+            let apart = ends_apart(&pair.writer) || ends_apart(&pair.reader);
+            real += u64::from(result.number == 0 && apart);
+        }
+        println!(
+            "accepted with start and finish apart: {} %",
+            100 * real / total
+        );
+        print_shares("small pairs, number and rounds", &by_rounds);
+        Shares { total, by_rounds }
+    }
+
+    fn count(&self, number: u64, rounds: &str) -> u64 {
+        let key = (number, rounds.to_string());
+        *self.by_rounds.get(&key).unwrap_or(&0)
+    }
+
+    fn percent(&self, number: u64, rounds: &str) -> u64 {
+        100 * self.count(number, rounds) / self.total
+    }
+
+    fn percent_accepted(&self) -> u64 {
+        let accepted = self.by_rounds.iter().filter(|(key, _)| key.0 == 0);
+        100 * accepted.map(|(_, count)| count).sum::<u64>() / self.total
+    }
+}
+
 #[test]
 fn small_pairs() {
-    let mut random = Random::new(20261115);
-    println!("seed {}", random.seed());
-    let mut shares: BTreeMap<(u64, String), u64> = BTreeMap::new();
-    let total = 50_000;
-    let mut real = 0;
-    for _ in 0..total {
-        let pair = small_pair(&mut random);
-        let result = built(&pair);
-        assert!(
-            result.number == 0 || result.number == 11,
-            "{}",
-            hex_pair(&pair)
-        );
-        let rounds = match result.rounds {
-            1..=5 => format!("rounds {}", result.rounds),
-            _ => "rounds 6 and more".to_string(),
-        };
-        *shares.entry((result.number, rounds)).or_default() += 1;
-        let ends_apart = |table: &[u8]| table[5] != table[6];
-        let apart = ends_apart(&pair.writer) || ends_apart(&pair.reader);
-        real += u64::from(result.number == 0 && apart);
-    }
-    println!(
-        "accepted with start and finish apart: {} %",
-        100 * real / total
-    );
-    print_shares("small pairs, number and rounds", &shares);
-    let share = |number: u64, rounds: &str| {
-        let count = shares.get(&(number, rounds.to_string())).unwrap_or(&0);
-        100 * count / total
-    };
-    let accepted: u64 = shares
-        .iter()
-        .filter(|(k, _)| k.0 == 0)
-        .map(|(_, n)| n)
-        .sum();
-    println!("accepted: {} %", 100 * accepted / total);
-    assert!(100 * accepted / total >= 30);
-    assert!(100 * accepted / total <= 75);
-    // The start is among all N, so a first round that removes nothing keeps
-    // it: 11 after a single round cannot be.
-    assert_eq!(share(11, "rounds 1"), 0);
-    assert!(share(11, "rounds 2") >= 5);
-    assert!(share(11, "rounds 3") >= 5);
-    assert!(share(11, "rounds 4") >= 1);
-    assert!(share(0, "rounds 2") >= 5);
-    assert!(share(0, "rounds 3") >= 2);
-    for number in [0, 11] {
-        for rounds in ["rounds 4", "rounds 5"] {
-            assert!(shares[&(number, rounds.to_string())] >= 50);
+    for rule in RULES {
+        let shares = Shares::of_small_pairs(rule);
+        let accepted = shares.percent_accepted();
+        println!("accepted: {accepted} %");
+        assert!((30..=75).contains(&accepted));
+        // The start is among all N, so a first round that removes nothing keeps
+        // it: 11 after a single round cannot be.
+        assert_eq!(shares.count(11, "rounds 1"), 0);
+        assert!(shares.percent(11, "rounds 2") >= 5);
+        assert!(shares.percent(11, "rounds 3") >= 5);
+        assert!(shares.percent(11, "rounds 4") >= 1);
+        assert!(shares.percent(0, "rounds 2") >= 5);
+        assert!(shares.percent(0, "rounds 3") >= 2);
+        for number in [0, 11] {
+            for rounds in ["rounds 4", "rounds 5"] {
+                assert!(shares.count(number, rounds) >= 50, "{number} {rounds}");
+            }
         }
     }
+}
+
+/// For many a small pair the rule matters: for number, kept count or rounds.
+/// What is kept when registered is kept under flow-through too.
+#[test]
+fn small_pairs_by_rule() {
+    let mut random = Random::new(20261117);
+    println!("seed {}", random.seed());
+    let mut differ = 0;
+    for _ in 0..10_000 {
+        let pair = small_pair(&mut random, REGISTERED);
+        let registered = built(&pair);
+        let flow_through = built(&pair.under(FLOW_THROUGH));
+        differ += u64::from(registered != flow_through);
+        assert!(registered.kept <= flow_through.kept, "{}", hex_pair(&pair));
+    }
+    println!("{differ} of 10,000 differ by the rule");
+    assert!(differ >= 2_500);
 }
 
 #[test]
 fn large_pairs() {
     for letters in [8, 2] {
-        let mut random = Random::new(7 + u64::from(letters));
-        println!("seed {}", random.seed());
-        let mut shares: BTreeMap<(u64, u64), u64> = BTreeMap::new();
-        for _ in 0..60 {
-            let pair = large_pair(&mut random, letters);
-            assert_eq!((pair.writer.len(), pair.reader.len()), (329, 329));
-            let result = built(&pair);
-            *shares.entry((result.number, result.rounds)).or_default() += 1;
+        for rule in RULES {
+            let mut random = Random::new(7 + u64::from(letters) + 100 * rule);
+            println!("seed {}", random.seed());
+            let mut shares: BTreeMap<(u64, u64), u64> = BTreeMap::new();
+            for _ in 0..30 {
+                let pair = large_pair(&mut random, letters, rule);
+                assert_eq!((pair.writer.len(), pair.reader.len()), (329, 329));
+                let result = built(&pair);
+                *shares.entry((result.number, result.rounds)).or_default() += 1;
+            }
+            print_shares(
+                &format!("large pairs, {letters} letters, rule {rule}"),
+                &shares,
+            );
         }
-        print_shares(&format!("large pairs, {letters} letters"), &shares);
     }
 }
 
 #[test]
 fn chain_pairs() {
-    let mut shares: BTreeMap<(u64, u64), u64> = BTreeMap::new();
-    for pair in chains() {
-        assert_eq!(pair.count(), 4096);
-        let result = built(&pair);
-        *shares.entry((result.number, result.rounds)).or_default() += 1;
+    for rule in RULES {
+        let mut shares: BTreeMap<(u64, u64), u64> = BTreeMap::new();
+        for pair in chains(rule) {
+            assert_eq!(pair.count(), 4096);
+            let result = built(&pair);
+            *shares.entry((result.number, result.rounds)).or_default() += 1;
+        }
+        print_shares(
+            &format!("chains under rule {rule}, number and rounds"),
+            &shares,
+        );
     }
-    print_shares("chains, number and rounds", &shares);
 }
 
 /// Refusals of many tables as one side's.
@@ -119,7 +173,7 @@ fn damaged_tables() {
     let mut random = Random::new(8);
     println!("seed {}", random.seed());
     let tables = (0..20_000).map(|_| {
-        let good = small_pair(&mut random).reader;
+        let good = small_pair(&mut random, REGISTERED).reader;
         damaged_table(&mut random, &good)
     });
     let shares = refusals(tables, Side::Reader);
@@ -150,6 +204,7 @@ fn damaged_pairs() {
         );
     }
     assert!(shares[&(9, 0)] >= 20);
+    assert!(shares[&(17, 0)] >= 20);
 }
 
 #[test]
@@ -157,7 +212,7 @@ fn prefixes_and_single_changes() {
     let mut random = Random::new(10);
     println!("seed {}", random.seed());
     for _ in 0..20 {
-        let good = small_pair(&mut random).writer;
+        let good = small_pair(&mut random, REGISTERED).writer;
         assert_eq!(prefixes(&good).count(), good.len() + 1);
         let shares = refusals(prefixes(&good), Side::Writer);
         assert_eq!(shares[&0], 1);
@@ -179,7 +234,7 @@ fn prefixes_and_single_changes() {
 /// A small writer's table with at least this many rows.
 fn writer_with_rows(random: &mut Random, rows: u8) -> Vec<u8> {
     loop {
-        let table = small_pair(random).writer;
+        let table = small_pair(random, REGISTERED).writer;
         if table[8] >= rows {
             return table;
         }
@@ -195,9 +250,10 @@ fn limit_calls() {
             writer,
             reader,
             bound,
+            rule,
         } = &call.pair;
         let mut buffer = call.buffer.clone();
-        let result = build(writer, reader, *bound, &mut buffer);
+        let result = build(writer, reader, *bound, *rule, &mut buffer);
         *shares.entry((result.number, result.side)).or_default() += 1;
         let expected = if writer[8] > 64 {
             (5, 1)
@@ -205,6 +261,8 @@ fn limit_calls() {
             (5, 2)
         } else if *bound > 15 {
             (9, 0)
+        } else if *rule > 1 {
+            (17, 0)
         } else if call.buffer.len() < call.pair.count() {
             (10, 0)
         } else {
@@ -268,6 +326,7 @@ fn listing_inputs() {
         }
     }
     assert!(shares["refused 9 side 0"] >= 100);
+    assert!(shares["refused 17 side 0"] >= 100);
     assert!(shares["refused 11 side 0"] >= 1000);
     assert!(shares["converter"] >= 1000);
 }
@@ -282,14 +341,25 @@ fn questions_and_steps() {
     let mut moves: BTreeMap<u64, u64> = BTreeMap::new();
     let mut step_shares: BTreeMap<(u64, u64), u64> = BTreeMap::new();
     for _ in 0..50_000 {
-        let pair = small_pair(&mut random);
+        let rule = random.pick(&RULES);
+        let mut pair = small_pair(&mut random, rule);
         let mut kept = kept_bytes(&mut random, pair.count());
         if random.chance(40) {
             kept = vec![0; pair.count()];
-            build(&pair.writer, &pair.reader, pair.bound, &mut kept);
+            build(&pair.writer, &pair.reader, pair.bound, pair.rule, &mut kept);
+        }
+        if random.chance(2) {
+            pair.rule = random.pick(&NO_RULES);
         }
         let (w, r, l) = configuration(&mut random, &pair);
-        let asked = ask(&pair.writer, &pair.reader, pair.bound, &kept, w, r, l);
+        let asked = ask(
+            &pair.writer,
+            &pair.reader,
+            pair.bound,
+            pair.rule,
+            &kept,
+            Configuration::of(w, r, l),
+        );
         *asked_shares.entry(asked.number).or_default() += 1;
         *moves.entry(asked.count).or_default() += 1;
 
@@ -299,6 +369,7 @@ fn questions_and_steps() {
             &pair.writer,
             &pair.reader,
             pair.bound,
+            pair.rule,
             &kept,
             &second_run(&run),
             &second_cycle(&cycle),
@@ -309,11 +380,12 @@ fn questions_and_steps() {
     print_shares("ask, number", &asked_shares);
     print_shares("ask, count of moves", &moves);
     print_shares("step, number and side", &step_shares);
-    for number in [0, 10, 12, 13] {
+    for number in [0, 10, 12, 13, 17] {
         assert!(asked_shares[&number] >= 100, "ask {number}");
     }
     let all = [
         (0, 0),
+        (17, 0),
         (10, 0),
         (12, 0),
         (13, 0),
@@ -352,7 +424,7 @@ fn second_cycle(cycle: &Cycle) -> second::Cycle {
 fn same_seed_same_inputs() {
     let (mut one, mut two) = (Random::new(5), Random::new(5));
     for _ in 0..100 {
-        assert_eq!(small_pair(&mut one), small_pair(&mut two));
+        assert_eq!(small_pair(&mut one, 0), small_pair(&mut two, 0));
         assert_eq!(damaged_pair(&mut one), damaged_pair(&mut two));
         assert_eq!(listing_input(&mut one), listing_input(&mut two));
     }
@@ -360,22 +432,26 @@ fn same_seed_same_inputs() {
 
 #[test]
 fn long_ways() {
-    for bound in [1, 2, 15] {
-        for upward in [false, true] {
-            let pair = long_way(bound, upward);
-            let result = built(&pair);
-            println!("long way, bound {bound}, upward {upward}: {result:?}");
-            assert_eq!((result.number, result.rounds), (0, 2));
-            assert_eq!(result.kept, 240 * bound);
+    for rule in RULES {
+        for bound in [1, 2, 15] {
+            for upward in [false, true] {
+                let pair = long_way(bound, upward, rule);
+                let result = built(&pair);
+                println!("long way, bound {bound}, upward {upward}, rule {rule}: {result:?}");
+                assert_eq!((result.number, result.rounds), (0, 2));
+                assert_eq!(result.kept, 240 * bound + 15 * rule);
+            }
         }
     }
 }
 
 #[test]
 fn many_rounds_are_as_measured() {
-    for (pair, rounds) in many_rounds() {
-        let result = built(&pair);
-        println!("N {}: {result:?}", pair.count());
-        assert_eq!(result.rounds, rounds, "{}", hex_pair(&pair));
+    for rule in RULES {
+        for (pair, rounds) in many_rounds(rule) {
+            let result = built(&pair);
+            println!("N {}, rule {rule}: {result:?}", pair.count());
+            assert_eq!(result.rounds, rounds, "{}", hex_pair(&pair));
+        }
     }
 }

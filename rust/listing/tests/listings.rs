@@ -1,9 +1,10 @@
 //! The text of the listing program against the second builder's.
 
 use inputs::listings::joined;
-use inputs::{chains, clocks, hex, large_pair, limits, listing_input, long_way, Pair, Random};
+use inputs::{chains, clocks, hex, large_pair, limits, listing_input, long_way, small_pair};
+use inputs::{Pair, Random, FLOW_THROUGH, REGISTERED, RULES};
 use listing::{printed, printed_in_parts};
-use std::collections::BTreeMap;
+use std::collections::{BTreeMap, BTreeSet};
 
 /// The first words of a listing: `converter`, or `refused` and its number.
 fn kind(text: &str) -> String {
@@ -26,7 +27,7 @@ fn compare(input: &[u8]) -> String {
     text
 }
 
-/// Compares the listings of a pair at its bound.
+/// Compares the listings of a pair at its bound under its rule.
 fn compare_pair(pair: &Pair) -> String {
     compare(&joined(pair))
 }
@@ -50,7 +51,7 @@ fn random_and_damaged() {
         let kinds = random_inputs(seed, 400);
         assert!(kinds["converter"] > 30 && kinds["refused 11"] > 30);
         // 10 cannot come: the program's buffer has room for any pair.
-        for number in [1, 2, 3, 4, 5, 6, 7, 8, 9] {
+        for number in [1, 2, 3, 4, 5, 6, 7, 8, 9, 17] {
             assert!(kinds.contains_key(&format!("refused {number}")));
         }
     }
@@ -61,50 +62,102 @@ fn no_input() {
     assert_eq!(compare(&[]).lines().count(), 19);
 }
 
-/// A good input whose listing is long enough to see a change in.
-fn good_input() -> Vec<u8> {
-    let mut random = Random::new(903);
+/// A good pair whose listing is long enough to see a change in, and is not the
+/// same under the other rule.
+fn good_pair(rule: u64) -> Pair {
+    let mut random = Random::new(903 + rule);
     println!("seed {}", random.seed());
     loop {
-        let input = listing_input(&mut random);
-        if second::listing(&input).lines().count() > 10 && !input.is_empty() {
-            return input;
+        let pair = small_pair(&mut random, rule);
+        let [registered, flow_through] = RULES.map(|rule| lines(&pair.under(rule)));
+        if registered.len() > 10 && flow_through.len() > 10 && registered[1..] != flow_through[1..]
+        {
+            return pair;
         }
     }
 }
 
+/// The lines of the second builder's listing.
+fn lines(pair: &Pair) -> Vec<String> {
+    let text = second::listing(&joined(pair));
+    text.lines().map(String::from).collect()
+}
+
+/// Every prefix of two tables, bound, rule and later bytes. A missing bound is
+/// 0, a missing rule is 1, and no later byte changes the text.
 #[test]
-fn prefixes_and_more() {
-    let good = good_input();
-    for n in 0..=good.len() {
-        compare(&good[..n]);
+fn every_prefix() {
+    for rule in RULES {
+        let pair = good_pair(rule);
+        let tables = pair.writer.len() + pair.reader.len();
+        let longer = [&joined(&pair)[..], &[0, 1, 2, 255, 10, 7]].concat();
+        let texts: Vec<String> = (0..=longer.len()).map(|n| compare(&longer[..n])).collect();
+        let (cut, listed) = texts.split_at(tables);
+        assert!(cut[1..].iter().all(|text| text.starts_with("refused ")));
+        let no_rule = pair.under(FLOW_THROUGH);
+        let no_bound = Pair {
+            bound: 0,
+            ..no_rule.clone()
+        };
+        let expected = [no_bound, no_rule, pair].map(|pair| compare_pair(&pair));
+        assert_eq!(listed[..3], expected);
+        assert!(listed[3..].iter().all(|text| *text == expected[2]));
     }
+}
+
+#[test]
+fn later_bytes() {
+    let good = joined(&good_pair(FLOW_THROUGH));
+    let text = compare(&good);
     for end in 0..=255 {
-        compare(&[&good[..], &[end]].concat());
+        assert_eq!(compare(&[&good[..], &[end]].concat()), text);
     }
     for length in [1023, 1024, 1025, 4096, 65536] {
         for filler in [0, 1, 10] {
             let mut long = good.clone();
             long.resize(length, filler);
-            compare(&long);
+            assert_eq!(compare(&long), text);
         }
     }
 }
 
+/// Every byte as the bound, and every byte as the rule.
 #[test]
-fn every_bound() {
-    let mut input = good_input();
-    let last = input.len() - 1;
-    for bound in 0..=255 {
-        input[last] = bound;
+fn every_bound_and_rule() {
+    let good = joined(&good_pair(REGISTERED));
+    let (bound, rule) = (good.len() - 2, good.len() - 1);
+    for byte in 0..=255 {
+        let mut input = good.clone();
+        input[bound] = byte;
         let text = compare(&input);
-        assert!(bound < 16 || text == "refused 9 side 0 row 0\n");
+        assert!(byte < 16 || text == "refused 9 side 0 row 0\n");
+        let mut input = good.clone();
+        input[rule] = byte;
+        let text = compare(&input);
+        assert!(byte < 2 || text == "refused 17 side 0 row 0\n");
+    }
+}
+
+/// A length field of the reader that says each number near the true one, and
+/// some far from it.
+#[test]
+fn the_readers_cut() {
+    let pair = good_pair(REGISTERED);
+    let good = joined(&pair);
+    let field = pair.writer.len() + 1;
+    let far = [(0, 0), (0, 255), (1, 0), (128, 0), (255, 255)];
+    let near = (good[field + 1] - 6..=good[field + 1] + 6).map(|low| (0, low));
+    for (high, low) in near.chain(far) {
+        let mut input = good.clone();
+        (input[field], input[field + 1]) = (high, low);
+        let text = compare(&input);
+        assert!(input == good || text.starts_with("refused "));
     }
 }
 
 #[test]
 fn short_reads() {
-    let good = good_input();
+    let good = joined(&good_pair(REGISTERED));
     let whole = second::listing(&good);
     for n in 1..good.len() {
         assert_eq!(printed_in_parts(&[&good[..n], &good[n..]]), whole);
@@ -120,19 +173,21 @@ fn full_size() {
     println!("seed {}", random.seed());
     let mut longest = 0;
     for letters in 1..=8 {
-        for _ in 0..4 {
-            let text = compare_pair(&large_pair(&mut random, letters));
+        for rule in [0, 1, 0, 1] {
+            let text = compare_pair(&large_pair(&mut random, letters, rule));
             longest = longest.max(text.lines().count());
         }
     }
-    let all = compare_pair(&all_kept());
-    assert_eq!(all.lines().count(), 1 + 4096);
+    for rule in RULES {
+        let all = compare_pair(&all_kept(rule));
+        assert_eq!(all.lines().count(), 1 + 4096);
+    }
     println!("longest random listing: {longest} lines");
 }
 
 /// A side of 16 states with four letters in each: hold, two ways on, and an
 /// item. At a bound of 15 every one of the 4,096 configurations is kept.
-fn all_kept() -> Pair {
+fn all_kept(rule: u64) -> Pair {
     let side = |role| inputs::Parts {
         role,
         states: 16,
@@ -141,7 +196,7 @@ fn all_kept() -> Pair {
         letters: 4,
         rows: (0..64).map(|i| four_letters(i / 4, i % 4)).collect(),
     };
-    Pair::of(&side(1), &side(2), 15)
+    Pair::of(&side(1), &side(2), 15, rule)
 }
 
 fn four_letters(state: u8, letter: u8) -> [u8; 5] {
@@ -161,18 +216,19 @@ fn sixty_four_moves() {
         letters: 8,
         rows: (0..8).map(|letter| [0, letter, 0, 0, 0]).collect(),
     };
-    let text = compare_pair(&Pair::of(&side(1), &side(2), 0));
-    assert_eq!(text.matches('.').count(), 64);
+    for rule in RULES {
+        let text = compare_pair(&Pair::of(&side(1), &side(2), 0, rule));
+        assert_eq!(text.matches('.').count(), 64);
+    }
 }
 
+/// The bytes of bound and rule are the low ones of the numbers.
 #[test]
 fn at_the_limits() {
-    let mut last = None;
-    for call in limits() {
-        if last.as_ref() != Some(&call.pair) {
-            compare_pair(&call.pair);
-        }
-        last = Some(call.pair);
+    let inputs: BTreeSet<Vec<u8>> = limits().iter().map(|call| joined(&call.pair)).collect();
+    println!("{} inputs", inputs.len());
+    for input in inputs {
+        compare(&input);
     }
 }
 
@@ -180,13 +236,15 @@ fn at_the_limits() {
 /// round, and ways that are as long as can be.
 #[test]
 fn many_rounds_and_long_ways() {
-    for pair in chains() {
-        compare_pair(&pair);
+    for rule in RULES {
+        for pair in chains(rule) {
+            compare_pair(&pair);
+        }
+        for bound in [1, 7, 15] {
+            compare_pair(&clocks(4, 3, bound, rule));
+            compare_pair(&long_way(bound, true, rule));
+            compare_pair(&long_way(bound, false, rule));
+        }
+        compare_pair(&clocks(16, 15, 15, rule));
     }
-    for bound in [1, 7, 15] {
-        compare_pair(&clocks(4, 3, bound));
-        compare_pair(&long_way(bound, true));
-        compare_pair(&long_way(bound, false));
-    }
-    compare_pair(&clocks(16, 15, 15));
 }

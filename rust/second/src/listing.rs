@@ -14,45 +14,43 @@ pub fn listing(input: &[u8]) -> String {
     if input.is_empty() {
         return worked_listings();
     }
-    let (writer, reader, bound) = cut(input);
-    pair_listing(writer, reader, bound)
+    let (writer, reader, bound, rule) = cut(input);
+    pair_listing(writer, reader, bound, rule)
 }
 
 /// "With no input at all it lists the two worked pairs, carried in the
-/// program as constants: pair A at bounds 0, 1, 2, then pair C at 1, 2."
+/// program as constants: pair A at bounds 0, 1, 2, then pair C at 1, 2." "With
+/// no input the pairs are listed under rule 0."
 fn worked_listings() -> String {
-    let of_a = [0, 1, 2].map(|bound| pair_listing(&A_WRITER, &A_READER, bound));
-    let of_c = [1, 2].map(|bound| pair_listing(&C_WRITER, &C_READER, bound));
+    let of_a = [0, 1, 2].map(|bound| pair_listing(&A_WRITER, &A_READER, bound, 0));
+    let of_c = [1, 2].map(|bound| pair_listing(&C_WRITER, &C_READER, bound, 0));
     of_a.concat() + &of_c.concat()
 }
 
-/// "writer table, reader table, bound byte": the parts of the input.
-fn cut(input: &[u8]) -> (&[u8], &[u8], u64) {
-    let (writer, rest) = input.split_at(writer_bytes(input));
-    // "the reader gets the rest less the last byte, which is the bound. If
-    // the rest is empty the reader's table is empty." Then there is no bound
-    // byte; none is needed, for the writer's table or else the empty
-    // reader's is refused first.
-    match rest.split_last() {
-        Some((bound, reader)) => (writer, reader, u64::from(*bound)),
-        None => (writer, &[], 0),
-    }
+/// The parts of the input: "the reader's table is now cut like the writer's;
+/// a bound and a rule byte follow (0 and 1 if missing), later bytes are
+/// ignored".
+fn cut(input: &[u8]) -> (&[u8], &[u8], u64, u64) {
+    let (writer, rest) = input.split_at(table_bytes(input));
+    let (reader, rest) = rest.split_at(table_bytes(rest));
+    let byte = |at: usize, missing: u64| rest.get(at).map_or(missing, |byte| u64::from(*byte));
+    (writer, reader, byte(0, 0), byte(1, 1))
 }
 
 /// "The writer gets 3 + its length field bytes, or all there are if fewer or
-/// if no length field is there".
-fn writer_bytes(input: &[u8]) -> usize {
-    match input {
-        [_, high, low, ..] => input.len().min(3 + length_field(*high, *low)),
-        _ => input.len(),
+/// if no length field is there"; so does the reader of what is left.
+fn table_bytes(left: &[u8]) -> usize {
+    match left {
+        [_, high, low, ..] => left.len().min(3 + length_field(*high, *low)),
+        _ => left.len(),
     }
 }
 
-/// The lines for one pair at one bound, each ended by one LF.
-pub fn pair_listing(writer: &[u8], reader: &[u8], bound: u64) -> String {
+/// The lines for one pair at one bound under one rule, each ended by one LF.
+pub fn pair_listing(writer: &[u8], reader: &[u8], bound: u64, rule: u64) -> String {
     let mut buffer = [0; 4096];
-    let built = build(writer, reader, bound, &mut buffer);
-    let pair = match Pair::read(writer, reader, bound) {
+    let built = build(writer, reader, bound, rule, &mut buffer);
+    let pair = match Pair::read(writer, reader, bound, rule) {
         Ok(pair) if built.number == 0 => pair,
         // "A refusal prints `refused 11 side 0 row 0` with its numbers."
         _ => {
@@ -62,13 +60,15 @@ pub fn pair_listing(writer: &[u8], reader: &[u8], bound: u64) -> String {
             )
         }
     };
-    // "First line: kept count, N, rounds, B."
+    // "First line: kept count, N, rounds, B."; it "ends in ` rule=` and the
+    // number".
     let mut text = format!(
-        "converter kept={} of={} rounds={} bound={}\n",
+        "converter kept={} of={} rounds={} bound={} rule={}\n",
         built.kept,
         pair.count(),
         built.rounds,
-        bound
+        pair.bound,
+        pair.rule.number()
     );
     text += &kept_lines(&pair, &buffer);
     text

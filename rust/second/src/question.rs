@@ -55,22 +55,16 @@ impl Asked {
 }
 
 /// Ask, "over the 0/1 bytes the caller lends, built by us or not": refusals
-/// 1 to 10, 12 and 13.
+/// 1 to 9, 17, 10, 12 and 13.
 pub fn ask(
     writer: &[u8],
     reader: &[u8],
     bound: u64,
+    rule: u64,
     kept: &[u8],
-    writer_state: u64,
-    reader_state: u64,
-    level: u64,
+    at: Configuration,
 ) -> Asked {
-    let at = Configuration {
-        writer: writer_state,
-        reader: reader_state,
-        level,
-    };
-    match checked(writer, reader, bound, kept) {
+    match checked(writer, reader, bound, rule, kept) {
         Err(refusal) => Asked::refused(refusal),
         // 13: "configuration out of range (ask, step)"
         Ok(pair) if !pair.in_range(at) => Asked::refused(Refusal::of_call(13)),
@@ -78,14 +72,15 @@ pub fn ask(
     }
 }
 
-/// Refusals 1 to 10 and 12, of ask and step alike.
+/// Refusals 1 to 9, 17, 10 and 12, of ask and step alike.
 pub(crate) fn checked(
     writer: &[u8],
     reader: &[u8],
     bound: u64,
+    rule: u64,
     kept: &[u8],
 ) -> Result<Pair, Refusal> {
-    let pair = Pair::read(writer, reader, bound)?;
+    let pair = Pair::read(writer, reader, bound, rule)?;
     // 10: "lent buffer under N bytes"
     if kept.len() < pair.count() {
         return Err(Refusal::of_call(10));
@@ -101,6 +96,6 @@ pub(crate) fn checked(
 /// bytes, in order of bit.
 pub(crate) fn allowed_moves(pair: &Pair, kept: &[u8], at: Configuration) -> Vec<(u64, u64)> {
     let in_k = |at: Configuration| kept[pair.place(at)] == 1;
-    let moves = pair.moves().into_iter();
+    let moves = pair.moves_at(at).into_iter();
     moves.filter(|xy| pair.allowed(in_k, at, *xy)).collect()
 }

@@ -1,6 +1,6 @@
 //! A run with real items.
 
-use crate::pair::{Configuration, Pair};
+use crate::pair::{start, tables, Configuration, Pair};
 use crate::question::checked;
 use crate::table::{Refusal, Row, Side};
 
@@ -21,11 +21,7 @@ pub struct Run {
 impl Run {
     /// The configuration of the run.
     pub fn at(&self) -> Configuration {
-        Configuration {
-            writer: self.writer,
-            reader: self.reader,
-            level: self.level,
-        }
+        Configuration::of(self.writer, self.reader, self.level)
     }
 }
 
@@ -77,35 +73,36 @@ pub struct Stepped {
 
 /// "Beginning a run takes two tables and B and gives the start with nothing
 /// held, or refuses (1 to 9) with all zero in the run beside the refusal's
-/// number, side and row."
+/// number, side and row." It takes no rule: "Build, ask and step take it."
 pub fn begin(writer: &[u8], reader: &[u8], bound: u64) -> Begun {
-    match Pair::read(writer, reader, bound) {
+    match tables(writer, reader, bound) {
         Err(refusal) => Begun {
             number: refusal.number,
             side: refusal.side,
             row: refusal.row,
             run: Run::default(),
         },
-        Ok(pair) => Begun {
+        Ok((writer, reader)) => Begun {
             number: 0,
             side: 0,
             row: 0,
-            run: run_at(pair.start(), &[]),
+            run: run_at(start(&writer, &reader), &[]),
         },
     }
 }
 
 /// "A step takes a run, kept bytes, two letters, the two answers seen and an
-/// incoming item." Refusals 1 to 10 and 12 to 16.
+/// incoming item." Refusals 1 to 9, 17, 10 and 12 to 16.
 pub fn step(
     writer: &[u8],
     reader: &[u8],
     bound: u64,
+    rule: u64,
     kept: &[u8],
     run: &Run,
     cycle: &Cycle,
 ) -> Stepped {
-    let pair = checked(writer, reader, bound, kept);
+    let pair = checked(writer, reader, bound, rule, kept);
     match pair.and_then(|pair| rows_taken(&pair, kept, run, cycle)) {
         // "A refused step returns the run given, item 0, mark 0."
         Err(refusal) => Stepped {
@@ -150,20 +147,22 @@ fn rows_taken(pair: &Pair, kept: &[u8], run: &Run, cycle: &Cycle) -> Result<(Row
     }
 }
 
-/// The step of an allowed move by two rows.
+/// The step of an allowed move by two rows: "the incoming item is appended
+/// first, then the front leaves". In between there may be one item more than
+/// the bound, and at level 0 the incoming one is the front.
 fn moved(run: &Run, writer_row: &Row, reader_row: &Row, incoming: u32) -> Stepped {
     let mut held = run.items[..run.level as usize].to_vec();
+    // "if the writer's row has item 1 the incoming one goes behind the last";
+    // "If the writer's row has item 0 the incoming one is ignored"
+    if writer_row.item == 1 {
+        held.push(incoming);
+    }
     let (mut item, mut mark) = (0, 0);
     // "If the reader's row has item 1 the front leaves and is returned with a
     // mark"; "if the reader's row has item 0 the returned item and mark are 0"
     if reader_row.item == 1 {
         item = held.remove(0);
         mark = 1;
-    }
-    // "if the writer's row has item 1 the incoming one goes behind the last";
-    // "If the writer's row has item 0 the incoming one is ignored"
-    if writer_row.item == 1 {
-        held.push(incoming);
     }
     let at = Configuration {
         writer: u64::from(writer_row.next),

@@ -24,7 +24,7 @@ impl Side {
 /// A refusal by number, with "Side, row" as the table of refusals gives them.
 #[derive(Clone, Copy, Debug, PartialEq, Eq)]
 pub struct Refusal {
-    /// The refusal's number, 1 to 16.
+    /// The refusal's number, 1 to 17.
     pub number: u64,
     /// 0 for no side, else 1 or 2.
     pub side: u64,
@@ -99,16 +99,27 @@ impl Table {
         padded
     }
 
-    /// "any one of its rows for that state and letter".
-    pub fn rows_for(&self, state: u64, letter: u64) -> impl Iterator<Item = &Row> + Clone {
-        self.rows
-            .iter()
-            .filter(move |row| u64::from(row.state) == state && u64::from(row.drive) == letter)
+    /// "any one of its rows for that state and letter": they stand together,
+    /// since "Rows rise strictly by state, then drive, then answer".
+    pub fn rows_for(&self, state: u64, letter: u64) -> &[Row] {
+        let key = |row: &Row| (u64::from(row.state), u64::from(row.drive));
+        let from = self.rows.partition_point(|row| key(row) < (state, letter));
+        let rest = &self.rows[from..];
+        &rest[..rest.partition_point(|row| key(row) == (state, letter))]
+    }
+
+    /// The letters that have a row at a state, rising.
+    pub fn letters_at(&self, state: u64) -> Vec<u64> {
+        let here = self.rows.iter().filter(|row| u64::from(row.state) == state);
+        let mut letters: Vec<u64> = here.map(|row| u64::from(row.drive)).collect();
+        letters.dedup();
+        letters
     }
 
     /// "state, drive and answer fix the row".
     pub fn row(&self, state: u64, letter: u64, answer: u64) -> Option<&Row> {
         self.rows_for(state, letter)
+            .iter()
             .find(|row| u64::from(row.answer) == answer)
     }
 }

@@ -1,8 +1,14 @@
-//! Each refusal of document 01, the order among them, and what stands in the
-//! lent buffer after each.
+//! Each refusal of document 01 and 17, the order among them, and what stands
+//! in the lent buffer after each.
 
 use second::worked::*;
-use second::{ask, begin, build, read, step, Built, Cycle, Refusal, Run, Side};
+use second::{ask, begin, build, read, step, Built, Configuration, Cycle, Refusal, Run, Side};
+
+/// Both rules.
+const RULES: [u64; 2] = [0, 1];
+
+/// Numbers that are no rule; the low bytes of two of them are one.
+const NO_RULES: [u64; 5] = [2, 255, 256, 257, u64::MAX];
 
 /// A good writer's table to be damaged: pair C's.
 fn good() -> Vec<u8> {
@@ -38,13 +44,24 @@ fn many_rows(role: u8, count: u8) -> Vec<u8> {
     table
 }
 
-/// The refusal of this table as a writer's, through every call that reads it.
+/// The refusal of this table as a writer's, through every call that reads it,
+/// under both rules and under none: 17 comes later.
 fn refusal(table: &[u8]) -> (u64, u64, u64) {
     let Refusal { number, side, row } = read(table, Side::Writer).unwrap_err();
     let all = (number, side, row);
+    let begun = begin(table, &C_READER, 2);
+    assert_eq!((begun.number, begun.side, begun.row), all);
+    assert_eq!(begun.run, Run::default());
+    for rule in [0, 1, 2] {
+        refused_under(rule, table, all);
+    }
+    all
+}
 
+/// Build, ask and step refuse this writer's table so.
+fn refused_under(rule: u64, table: &[u8], (number, side, row): (u64, u64, u64)) {
     let mut buffer = [0xEE; 4096];
-    let built = build(table, &C_READER, 2, &mut buffer);
+    let built = build(table, &C_READER, 2, rule, &mut buffer);
     let expected = Built {
         number,
         side,
@@ -55,29 +72,55 @@ fn refusal(table: &[u8]) -> (u64, u64, u64) {
     assert_eq!(built, expected);
     assert_eq!(buffer, [0xEE; 4096], "buffer untouched");
 
-    let asked = ask(table, &C_READER, 2, &[0; 9], 0, 0, 0);
-    assert_eq!((asked.number, asked.side, asked.row), all);
+    let asked = ask(table, &C_READER, 2, rule, &[0; 9], START);
+    assert_eq!((asked.number, asked.side, asked.row), (number, side, row));
     assert_eq!((asked.set, asked.count, asked.lowest), (0, 0, 64));
 
-    let begun = begin(table, &C_READER, 2);
-    assert_eq!((begun.number, begun.side, begun.row), all);
-    assert_eq!(begun.run, Run::default());
-
     let run = senseless();
-    let stepped = step(table, &C_READER, 2, &[0; 9], &run, &Cycle::default());
-    assert_eq!((stepped.number, stepped.side, stepped.row), all);
+    let stepped = step(table, &C_READER, 2, rule, &[0; 9], &run, &Cycle::default());
+    assert_eq!(
+        (stepped.number, stepped.side, stepped.row),
+        (number, side, row)
+    );
     assert_eq!((stepped.run, stepped.item, stepped.mark), (run, 0, 0));
-    all
 }
+
+/// A configuration that is nowhere in range.
+const NOWHERE: Configuration = Configuration {
+    writer: 99,
+    reader: u64::MAX,
+    level: 1 << 40,
+};
+
+/// Pair A's start.
+const START: Configuration = Configuration {
+    writer: 0,
+    reader: 0,
+    level: 0,
+};
 
 /// A run that is nowhere in range.
 fn senseless() -> Run {
     Run {
-        writer: 99,
-        reader: u64::MAX,
-        level: 1 << 40,
+        writer: NOWHERE.writer,
+        reader: NOWHERE.reader,
+        level: NOWHERE.level,
         items: [9; 16],
     }
+}
+
+/// A step of pair A from a run that is nowhere in range.
+fn senseless_step(bound: u64, rule: u64, kept: &[u8]) -> second::Stepped {
+    let cycle = Cycle::default();
+    step(
+        &A_WRITER,
+        &A_READER,
+        bound,
+        rule,
+        kept,
+        &senseless(),
+        &cycle,
+    )
 }
 
 #[test]
@@ -170,109 +213,146 @@ fn refusal_8() {
 
 #[test]
 fn writer_before_reader() {
-    let bad_row = with(&[(9, 9)]);
-    let mut buffer = [3; 64];
-    let built = build(&bad_row, &[], 99, &mut buffer);
-    assert_eq!((built.number, built.side, built.row), (7, 1, 0));
-    let built = build(&A_WRITER, &[], 99, &mut buffer);
-    assert_eq!((built.number, built.side, built.row), (1, 2, 0));
-    let mut reader = A_READER;
-    reader[20] = 9;
-    let built = build(&A_WRITER, &reader, 99, &mut buffer);
-    assert_eq!((built.number, built.side, built.row), (7, 2, 2));
-    assert_eq!(buffer, [3; 64]);
+    for rule in [0, 1, 2] {
+        let bad_row = with(&[(9, 9)]);
+        let mut buffer = [3; 64];
+        let built = build(&bad_row, &[], 99, rule, &mut buffer);
+        assert_eq!((built.number, built.side, built.row), (7, 1, 0));
+        let built = build(&A_WRITER, &[], 99, rule, &mut buffer);
+        assert_eq!((built.number, built.side, built.row), (1, 2, 0));
+        let mut reader = A_READER;
+        reader[20] = 9;
+        let built = build(&A_WRITER, &reader, 99, rule, &mut buffer);
+        assert_eq!((built.number, built.side, built.row), (7, 2, 2));
+        assert_eq!(buffer, [3; 64]);
+    }
 }
 
+/// 9 before 17 and 10.
 #[test]
 fn refusal_9() {
     for bound in [16, 17, 256, 257, u64::MAX] {
-        let built = build(&A_WRITER, &A_READER, bound, &mut []);
-        assert_eq!((built.number, built.side, built.row), (9, 0, 0));
-        let asked = ask(&A_WRITER, &A_READER, bound, &[], 0, 0, 0);
-        assert_eq!((asked.number, asked.lowest), (9, 64));
         let begun = begin(&A_WRITER, &A_READER, bound);
         assert_eq!((begun.number, begun.run), (9, Run::default()));
-        let stepped = step(
-            &A_WRITER,
-            &A_READER,
-            bound,
-            &[],
-            &senseless(),
-            &Cycle::default(),
-        );
-        assert_eq!((stepped.number, stepped.run), (9, senseless()));
+        for rule in [0, 1, 2, u64::MAX] {
+            let built = build(&A_WRITER, &A_READER, bound, rule, &mut []);
+            assert_eq!((built.number, built.side, built.row), (9, 0, 0));
+            let asked = ask(&A_WRITER, &A_READER, bound, rule, &[], START);
+            assert_eq!((asked.number, asked.lowest), (9, 64));
+            let stepped = senseless_step(bound, rule, &[]);
+            assert_eq!((stepped.number, stepped.run), (9, senseless()));
+        }
     }
     assert_eq!(begin(&A_WRITER, &A_READER, 15).number, 0);
 }
 
+/// "17, rule above 1, directly after 9": before 10, 12 and 13. "New refusals
+/// carry side 0, row 0 unless said."
+#[test]
+fn refusal_17() {
+    for rule in NO_RULES {
+        for room in [0, 7, 8, 11] {
+            let mut buffer = vec![5; room];
+            let built = build(&A_WRITER, &A_READER, 1, rule, &mut buffer);
+            assert_eq!((built.number, built.side, built.row), (17, 0, 0));
+            assert_eq!((built.kept, built.rounds), (0, 0));
+            assert_eq!(buffer, vec![5; room], "buffer untouched");
+            let asked = ask(&A_WRITER, &A_READER, 1, rule, &buffer, NOWHERE);
+            assert_eq!((asked.number, asked.side, asked.row), (17, 0, 0));
+            assert_eq!((asked.set, asked.count, asked.lowest), (0, 0, 64));
+            let stepped = senseless_step(1, rule, &buffer);
+            assert_eq!((stepped.number, stepped.side, stepped.row), (17, 0, 0));
+            assert_eq!((stepped.run, stepped.item), (senseless(), 0));
+            assert_eq!(stepped.mark, 0);
+        }
+    }
+}
+
 #[test]
 fn refusal_10() {
-    let mut buffer = [5; 63];
-    let built = build(&A_WRITER, &A_READER, 15, &mut buffer);
-    assert_eq!((built.number, built.side, built.row), (10, 0, 0));
-    assert_eq!((built.kept, built.rounds), (0, 0));
-    assert_eq!(buffer, [5; 63]);
-    let mut buffer = [5; 64];
-    assert_eq!(build(&A_WRITER, &A_READER, 15, &mut buffer).number, 0);
-    // 10 before 12 and 13.
-    assert_eq!(ask(&A_WRITER, &A_READER, 1, &[2; 7], 9, 9, 9).number, 10);
-    let stepped = step(
-        &A_WRITER,
-        &A_READER,
-        1,
-        &[2; 7],
-        &senseless(),
-        &Cycle::default(),
-    );
-    assert_eq!(stepped.number, 10);
+    for rule in RULES {
+        let mut buffer = [5; 63];
+        let built = build(&A_WRITER, &A_READER, 15, rule, &mut buffer);
+        assert_eq!((built.number, built.side, built.row), (10, 0, 0));
+        assert_eq!((built.kept, built.rounds), (0, 0));
+        assert_eq!(buffer, [5; 63]);
+        let mut buffer = [5; 64];
+        assert_eq!(build(&A_WRITER, &A_READER, 15, rule, &mut buffer).number, 0);
+        // 10 before 12 and 13.
+        let asked = ask(&A_WRITER, &A_READER, 1, rule, &[2; 7], NOWHERE);
+        assert_eq!(asked.number, 10);
+        assert_eq!(senseless_step(1, rule, &[2; 7]).number, 10);
+    }
 }
 
 #[test]
 fn refusal_11_buffer() {
     let mut buffer = [5; 11];
-    let built = build(&C_WRITER, &C_READER, 1, &mut buffer);
+    let built = build(&C_WRITER, &C_READER, 1, 0, &mut buffer);
     assert_eq!((built.number, built.side, built.row), (11, 0, 0));
     assert_eq!((built.kept, built.rounds), (0, 3));
     assert_eq!(buffer, [0, 0, 0, 0, 0, 0, 5, 5, 5, 5, 5]);
 }
 
+/// A writer that never moves an item and a reader that must take one: the
+/// start goes in the first round, under flow-through as well.
+#[test]
+fn refusal_11_under_flow_through() {
+    let writer = [1, 0, 11, 1, 1, 0, 0, 1, 1, 0, 0, 0, 0, 0];
+    let reader = [1, 0, 11, 2, 2, 0, 1, 1, 1, 0, 0, 0, 1, 1];
+    let mut buffer = [5; 5];
+    let built = build(&writer, &reader, 1, 1, &mut buffer);
+    assert_eq!((built.number, built.side, built.row), (11, 0, 0));
+    assert_eq!((built.kept, built.rounds), (0, 2));
+    assert_eq!(buffer, [0, 0, 0, 0, 5]);
+}
+
 #[test]
 fn refusal_12() {
-    let mut kept = [1, 0, 0, 0, 0, 1, 1, 2];
-    // 12 before 13.
-    let asked = ask(&A_WRITER, &A_READER, 1, &kept, 9, 9, 9);
-    assert_eq!((asked.number, asked.side, asked.row), (12, 0, 0));
-    assert_eq!((asked.set, asked.count, asked.lowest), (0, 0, 64));
-    assert_eq!(asked.packed(), 12 + (64 << 48));
-    let stepped = step(
-        &A_WRITER,
-        &A_READER,
-        1,
-        &kept,
-        &senseless(),
-        &Cycle::default(),
-    );
-    assert_eq!((stepped.number, stepped.run), (12, senseless()));
-    // Bytes past N are never looked at.
-    kept[7] = 0;
-    let mut longer = kept.to_vec();
-    longer.push(77);
-    let asked = ask(&A_WRITER, &A_READER, 1, &longer, 0, 0, 0);
-    assert_eq!((asked.number, asked.set), (0, 257));
+    for rule in RULES {
+        let mut kept = [1, 0, 0, 0, 0, 1, 1, 2];
+        // 12 before 13.
+        let asked = ask(&A_WRITER, &A_READER, 1, rule, &kept, NOWHERE);
+        assert_eq!((asked.number, asked.side, asked.row), (12, 0, 0));
+        assert_eq!((asked.set, asked.count, asked.lowest), (0, 0, 64));
+        assert_eq!(asked.packed(), 12 + (64 << 48));
+        let stepped = senseless_step(1, rule, &kept);
+        assert_eq!((stepped.number, stepped.run), (12, senseless()));
+        // Bytes past N are never looked at.
+        kept[7] = 0;
+        let mut longer = kept.to_vec();
+        longer.push(77);
+        let asked = ask(&A_WRITER, &A_READER, 1, rule, &longer, START);
+        // The move 1.1 passes under flow-through only.
+        assert_eq!((asked.number, asked.set), (0, 257 + (rule << 9)));
+    }
+}
+
+/// What pair A keeps at bound 1, under both rules.
+const A_KEPT: [u8; 8] = [1, 0, 0, 0, 0, 1, 1, 0];
+
+/// A step of pair A at bound 1, which is the same under both rules.
+fn step_of_a(kept: &[u8], run: &Run, cycle: &Cycle) -> second::Stepped {
+    let under = |rule| step(&A_WRITER, &A_READER, 1, rule, kept, run, cycle);
+    let [registered, flow_through] = RULES.map(under);
+    assert_eq!(registered, flow_through);
+    registered
 }
 
 #[test]
 fn refusal_13() {
-    let kept = [1, 0, 0, 0, 0, 1, 1, 0];
     for (w, r, l) in [
         (2, 0, 0),
         (0, 2, 0),
         (0, 0, 2),
         (u64::MAX, u64::MAX, u64::MAX),
     ] {
-        let asked = ask(&A_WRITER, &A_READER, 1, &kept, w, r, l);
-        assert_eq!((asked.number, asked.side, asked.row), (13, 0, 0));
-        assert_eq!((asked.set, asked.count, asked.lowest), (0, 0, 64));
+        let at = Configuration::of(w, r, l);
+        for rule in RULES {
+            let asked = ask(&A_WRITER, &A_READER, 1, rule, &A_KEPT, at);
+            assert_eq!((asked.number, asked.side, asked.row), (13, 0, 0));
+            assert_eq!((asked.set, asked.count, asked.lowest), (0, 0, 64));
+        }
         let mut run = Run {
             writer: w,
             reader: r,
@@ -284,12 +364,9 @@ fn refusal_13() {
             writer_letter: 9,
             ..Cycle::default()
         };
-        assert_eq!(
-            step(&A_WRITER, &A_READER, 1, &kept, &run, &cycle).number,
-            13
-        );
+        assert_eq!(step_of_a(&A_KEPT, &run, &cycle).number, 13);
         run.items = [1; 16];
-        let stepped = step(&A_WRITER, &A_READER, 1, &kept, &run, &cycle);
+        let stepped = step_of_a(&A_KEPT, &run, &cycle);
         assert_eq!((stepped.number, stepped.run), (13, run));
     }
     for place in 1..16 {
@@ -300,19 +377,15 @@ fn refusal_13() {
             items: [0; 16],
         };
         run.items[0] = 3;
-        assert_eq!(
-            step(&A_WRITER, &A_READER, 1, &kept, &run, &Cycle::default()).number,
-            0
-        );
+        assert_eq!(step_of_a(&A_KEPT, &run, &Cycle::default()).number, 0);
         run.items[place] = 1;
-        let stepped = step(&A_WRITER, &A_READER, 1, &kept, &run, &Cycle::default());
+        let stepped = step_of_a(&A_KEPT, &run, &Cycle::default());
         assert_eq!((stepped.number, stepped.side, stepped.run), (13, 0, run));
     }
 }
 
 /// Number and side of a step at the start of pair A, bound 1.
 fn at_start(x: u64, y: u64, a: u64, b: u64) -> (u64, u64, u64) {
-    let kept = [1, 0, 0, 0, 0, 1, 1, 0];
     let cycle = Cycle {
         writer_letter: x,
         reader_letter: y,
@@ -320,7 +393,7 @@ fn at_start(x: u64, y: u64, a: u64, b: u64) -> (u64, u64, u64) {
         reader_answer: b,
         incoming: 4,
     };
-    let stepped = step(&A_WRITER, &A_READER, 1, &kept, &Run::default(), &cycle);
+    let stepped = step_of_a(&A_KEPT, &Run::default(), &cycle);
     if stepped.number != 0 {
         assert_eq!(
             (stepped.run, stepped.item, stepped.mark),
@@ -345,14 +418,7 @@ fn refusal_15() {
     // An impossible answer in a move that is not allowed.
     assert_eq!(at_start(0, 1, 9, 99), (15, 0, 0));
     // Nothing kept.
-    let stepped = step(
-        &A_WRITER,
-        &A_READER,
-        1,
-        &[0; 8],
-        &Run::default(),
-        &Cycle::default(),
-    );
+    let stepped = step_of_a(&[0; 8], &Run::default(), &Cycle::default());
     assert_eq!((stepped.number, stepped.side), (15, 0));
 }
 

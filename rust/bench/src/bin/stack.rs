@@ -3,7 +3,8 @@
 //! `cargo run --profile fast --offline -p bench --bin stack`; x86-64 only.
 
 use bridge::{packed, Configuration};
-use inputs::{chains, damaged_pair, large_pair, limits, many_rounds, small_pair, Pair, Random};
+use inputs::{chains, damaged_pair, large_pair, limits, many_rounds, small_pair};
+use inputs::{Pair, Random, RULES};
 use std::arch::asm;
 use std::cell::RefCell;
 
@@ -36,7 +37,8 @@ thread_local! {
 extern "C" fn make() {
     CALL.with_borrow_mut(|call| {
         let call = call.as_mut().expect("a call is set");
-        let (writer, reader, bound) = (&call.pair.writer, &call.pair.reader, call.pair.bound);
+        let (writer, reader) = (&call.pair.writer[..], &call.pair.reader[..]);
+        let (bound, rule) = (call.pair.bound, call.pair.rule);
         let at = Configuration {
             writer: 0,
             reader: 0,
@@ -44,9 +46,9 @@ extern "C" fn make() {
         };
         match call.what {
             What::Nothing => 0,
-            What::Build => packed::build(writer, reader, bound, &mut call.kept),
-            What::Ask => packed::ask(writer, reader, bound, &call.kept, at),
-            What::AskSet => packed::ask_set(writer, reader, bound, &call.kept, at),
+            What::Build => packed::build(writer, reader, bound, rule, &mut call.kept),
+            What::Ask => packed::ask(writer, reader, bound, rule, &call.kept, at),
+            What::AskSet => packed::ask_set(writer, reader, bound, rule, &call.kept, at),
         };
     });
 }
@@ -84,19 +86,24 @@ fn used(stack: &mut Stack, pair: &Pair, kept: &[u8], what: What) -> usize {
         .unwrap_or(SIZE)
 }
 
-fn main() {
+/// The pairs that are measured: those with good tables under both rules.
+fn pairs() -> Vec<Pair> {
     let mut random = Random::new(4);
-    let mut pairs: Vec<Pair> = chains();
-    pairs.extend(
-        many_rounds()
-            .into_iter()
-            .map(|(pair, _)| pair)
-            .filter(|p| p.count() < 500),
-    );
-    pairs.extend((0..20).map(|_| large_pair(&mut random, 4)));
-    pairs.extend((0..1000).map(|_| small_pair(&mut random)));
+    let mut pairs = Vec::new();
+    for rule in RULES {
+        let many = many_rounds(rule).into_iter().map(|(pair, _)| pair);
+        pairs.extend(chains(rule));
+        pairs.extend(many.filter(|pair| pair.count() < 500));
+        pairs.extend((0..20).map(|_| large_pair(&mut random, 4, rule)));
+        pairs.extend((0..1000).map(|_| small_pair(&mut random, rule)));
+    }
     pairs.extend((0..1000).map(|_| damaged_pair(&mut random)));
     pairs.extend(limits().into_iter().map(|call| call.pair));
+    pairs
+}
+
+fn main() {
+    let pairs = pairs();
     let mut stack = Box::new(Stack([0; SIZE]));
     let kept = vec![1; 4096];
     let own = used(&mut stack, &pairs[0], &kept, What::Nothing);

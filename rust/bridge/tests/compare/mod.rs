@@ -12,10 +12,11 @@ use std::collections::BTreeMap;
 /// What was compared.
 #[derive(Default)]
 pub struct Compared {
-    builds: u64,
-    asks: u64,
-    /// How often each number and side was met, by call.
-    met: BTreeMap<(&'static str, u64, u64), u64>,
+    /// How many builds and asks, by rule.
+    builds: BTreeMap<u64, u64>,
+    asks: BTreeMap<u64, u64>,
+    /// How often each number and side was met, by call and rule.
+    met: BTreeMap<(&'static str, u64, u64, u64), u64>,
 }
 
 impl Compared {
@@ -26,8 +27,9 @@ impl Compared {
     /// Both builds over a copy of `buffer`; returns what they left in it.
     pub fn build(&mut self, pair: &Pair, buffer: &[u8]) -> (second::Built, Vec<u8>) {
         let (mut ours, mut theirs) = (buffer.to_vec(), buffer.to_vec());
-        let number = packed::build(&pair.writer, &pair.reader, pair.bound, &mut ours);
-        let built = second::build(&pair.writer, &pair.reader, pair.bound, &mut theirs);
+        let (writer, reader) = (&pair.writer[..], &pair.reader[..]);
+        let number = packed::build(writer, reader, pair.bound, pair.rule, &mut ours);
+        let built = second::build(writer, reader, pair.bound, pair.rule, &mut theirs);
         if number != built.packed() || ours != theirs {
             panic!(
                 "build differs on\n{}\nbuffer of {} bytes\nproved: {number:#x}, bytes {}\nsecond: {:#x}, bytes {}",
@@ -38,25 +40,24 @@ impl Compared {
                 hex(&theirs)
             );
         }
-        self.builds += 1;
-        *self
-            .met
-            .entry(("build", built.number, built.side))
-            .or_default() += 1;
+        *self.builds.entry(pair.rule).or_default() += 1;
+        self.meet("build", pair.rule, built.number, built.side);
         (built, theirs)
     }
 
     /// Both answers at a configuration, the set and the packed number.
     pub fn ask(&mut self, pair: &Pair, kept: &[u8], (w, r, l): (u64, u64, u64)) -> second::Asked {
-        let (writer, reader, bound) = (&pair.writer[..], &pair.reader[..], pair.bound);
+        let (writer, reader) = (&pair.writer[..], &pair.reader[..]);
+        let (bound, rule) = (pair.bound, pair.rule);
         let at = Configuration {
             writer: w,
             reader: r,
             level: l,
         };
-        let number = packed::ask(writer, reader, bound, kept, at);
-        let set = packed::ask_set(writer, reader, bound, kept, at);
-        let asked = second::ask(writer, reader, bound, kept, w, r, l);
+        let number = packed::ask(writer, reader, bound, rule, kept, at);
+        let set = packed::ask_set(writer, reader, bound, rule, kept, at);
+        let at = second::Configuration::of(w, r, l);
+        let asked = second::ask(writer, reader, bound, rule, kept, at);
         if number != asked.packed() || set != asked.set {
             panic!(
                 "ask differs on\n{}\nkept: {}\nat {w} {r} {l}\nproved: {number:#x}, set {set:#x}\nsecond: {:#x}, set {:#x}",
@@ -66,12 +67,13 @@ impl Compared {
                 asked.set
             );
         }
-        self.asks += 1;
-        *self
-            .met
-            .entry(("ask", asked.number, asked.side))
-            .or_default() += 1;
+        *self.asks.entry(rule).or_default() += 1;
+        self.meet("ask", rule, asked.number, asked.side);
         asked
+    }
+
+    fn meet(&mut self, call: &'static str, rule: u64, number: u64, side: u64) {
+        *self.met.entry((call, rule, number, side)).or_default() += 1;
     }
 
     /// Ask at every configuration of a good pair.
@@ -85,24 +87,33 @@ impl Compared {
         }
     }
 
-    /// How often a call met a number and side.
+    /// How often a call met a number and side, under any rule.
     pub fn met(&self, call: &'static str, number: u64, side: u64) -> u64 {
-        *self.met.get(&(call, number, side)).unwrap_or(&0)
+        let all = self.met.iter();
+        all.filter(|(key, _)| (key.0, key.2, key.3) == (call, number, side))
+            .map(|(_, count)| count)
+            .sum()
+    }
+
+    /// The same under one rule.
+    pub fn met_under(&self, rule: u64, call: &'static str, number: u64, side: u64) -> u64 {
+        *self.met.get(&(call, rule, number, side)).unwrap_or(&0)
     }
 
     /// Prints what was compared.
     pub fn print(&self, title: &str) {
         println!(
-            "{title}: {} builds and {} asks are equal",
+            "{title}: by rule {:?} builds and {:?} asks are equal",
             self.builds, self.asks
         );
-        for ((call, number, side), count) in &self.met {
-            println!("  {call} {number} side {side}: {count}");
+        for ((call, rule, number, side), count) in &self.met {
+            println!("  {call} under {rule}: {number} side {side}: {count}");
         }
     }
 
-    pub fn builds(&self) -> u64 {
-        self.builds
+    /// How many builds were compared under a rule.
+    pub fn builds(&self, rule: u64) -> u64 {
+        *self.builds.get(&rule).unwrap_or(&0)
     }
 }
 

@@ -1,14 +1,16 @@
-// Entry points for the generator: build and ask on byte slices and numbers, each returning one 64-bit number.
-// Document 01, "The calls and what they return".
+// Entry points for the generator: build, ask and why on byte slices and numbers, each returning one 64-bit number.
+// Document 01, "The calls and what they return"; why is request b's.
 ghost use mathlib.Core.Path.{_≡_};
 ghost use Prim.Native.Nat.{_<_, _^_};
 ghost use Rattle.rules.specs.Configurations.{confWith};
 ghost use Rattle.calls.specs.Call.{callOf};
 ghost use Rattle.calls.specs.Ask.{askOf};
-ghost use Rattle.calls.specs.Packed.{packed, packedWith, packedAsked, PackedBuild};
+ghost use Rattle.calls.specs.Why.{whyOf};
+ghost use Rattle.calls.specs.Packed.{packed, packedWith, packedAsked, packedExplained, PackedBuild};
 use ask::ask;
 use build::build;
 use format::Verdict;
+use why::why;
 
 fn pack(number: u8, side: u8, row: u16, fourth: u64, fifth: u64) -> u64
     requires { ⌜ (fourth < 2 ^ 16) × (fifth < 2 ^ 16) ⌝ }
@@ -98,4 +100,36 @@ pub extern "C" fn bridge_ask_set(
         reader_state,
         level,
     ).set
+}
+
+#[no_mangle]
+pub extern "C" fn bridge_why(
+    writer: &[u8],
+    reader: &[u8],
+    bound: u64,
+    rule: u64,
+    kept: &[u8],
+    writer_state: u64,
+    reader_state: u64,
+    level: u64,
+    x: u64,
+    y: u64,
+) -> u64
+    ensures { λ z. ⌜ z ≡ packedExplained
+        (whyOf (callOf (now (writer .entry)) (now (reader .entry)) bound rule) (now (kept .entry)) (confWith «writer_state» «reader_state» level) x y) ⌝ }
+{
+    let e = why(
+        writer,
+        reader,
+        bound,
+        rule,
+        kept,
+        writer_state,
+        reader_state,
+        level,
+        x,
+        y,
+    );
+    let v = e.verdict;
+    pack_verdict(v, e.reason as u64, 0)
 }

@@ -20,7 +20,7 @@ use Rattle.rules.specs.Kept.{KeptAt}
 use Rattle.rules.specs.Tools.Computed.{rowWith, allowedTest}
 use Rattle.rules.proofs.Tools.RowsFor.{may-answers, answers-found, may-found}
 use Rattle.rules.proofs.Places.{may-good}
-use Rattle.rules.proofs.Tools.Decided.{allowed-test}
+use Rattle.rules.proofs.Tools.Reasoned.{allowed-test}
 use Rattle.calls.specs.declared.Run.{Run}
 use Rattle.calls.specs.declared.Cycle.{Cycle}
 use Rattle.calls.specs.declared.Stepped.{Stepped}

@@ -20,7 +20,7 @@ use Rattle.rules.specs.declared.Conf.{Conf}
 use Rattle.rules.specs.Configurations.{moveOf}
 use Rattle.rules.specs.Sets.{AllowedIn}
 use Rattle.rules.specs.Kept.{KeptAt}
-use Rattle.rules.proofs.Tools.Decided.{allowed-test}
+use Rattle.rules.proofs.Tools.Reasoned.{allowed-test}
 use Rattle.calls.specs.declared.Asked.{Asked}
 use Rattle.calls.specs.Call.{Call, pairOf}
 use Rattle.calls.specs.Refusals.{enterChecks}

@@ -19,7 +19,7 @@ use Rattle.rules.specs.Sets.{AllowedIn}
 use Rattle.rules.specs.Kept.{KeptAt}
 use Rattle.rules.specs.Tools.Computed.{allowedTest}
 use Rattle.rules.proofs.Places.{move-x, move-y}
-use Rattle.rules.proofs.Tools.Decided.{allowed-test}
+use Rattle.rules.proofs.Tools.Reasoned.{allowed-test}
 use Rattle.calls.specs.Call.{Call, pairOf}
 use Rattle.calls.specs.Refusals.{enterChecks}
 use Rattle.calls.specs.Ask.{isAllowed, moveSet, answered, unanswered, asksChecks, askOf}

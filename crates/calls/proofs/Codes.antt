@@ -24,9 +24,11 @@ use Rattle.calls.specs.Call.{Call, pairOf}
 use Rattle.calls.specs.Refusals.{beginChecks}
 use Rattle.calls.specs.Build.{Made, buildChecks, BuildSays}
 use Rattle.calls.specs.Ask.{askChecks, askOf}
+use Rattle.calls.specs.Why.{whyChecks, whyOf}
 use Rattle.calls.specs.Begin.{beginOf}
 use Rattle.calls.specs.Step.{stepChecks, stepOf}
 use Rattle.calls.proofs.Accepted.{step-verdict}
+use Rattle.calls.proofs.Refused.{why-verdict}
 use Rattle.calls.proofs.Largest.{build-cases}
 
 -- ---- a list of checks none of which has the number n
@@ -61,7 +63,7 @@ numbered cs zeros elevens e = record {
   not-eleven = λ q. never 10 cs elevens (sym (ap numberOf e) ∙ q);
 }
 
--- ---- ask, begin and step: 0 says done, and 11 is never said
+-- ---- ask, why, begin and step: 0 says done, and 11 is never said
 
 module _ (k : Call) where
   pub begin-numbered : Numbered (beginOf k .verdict)
@@ -72,6 +74,10 @@ module _ (k : Call) where
   unfolding askOf hasNumber headerChecks rowChecks
   ask-numbered bytes c =
       numbered (askChecks k bytes c) refl refl (given-verdict (λ (a : Asked). a .verdict) _ _ (λ v. refl) refl (verdictOf (askChecks k bytes c)))
+
+  pub why-numbered : (bytes : List ℕ) (c : Conf) (x y : ℕ) → Numbered (whyOf k bytes c x y .verdict)
+  unfolding hasNumber headerChecks rowChecks
+  why-numbered bytes c x y = numbered (whyChecks k bytes c x y) refl refl (why-verdict k bytes c x y)
 
   pub step-numbered : (bytes : List ℕ) (u : Run) (c : Cycle) → Numbered (stepOf k bytes u c .verdict)
   unfolding hasNumber headerChecks rowChecks

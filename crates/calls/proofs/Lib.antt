@@ -14,4 +14,5 @@ pub mod Order
 pub mod Left
 pub mod Codes
 pub mod AskSays
+pub mod WhySays
 pub mod StepSays

@@ -1,4 +1,4 @@
--- Number and side of a verdict are below 2^8 and its row below 2^16, for every refusal of build and ask. Assumes nothing.
+-- Number and side of a verdict are below 2^8 and its row below 2^16, for every refusal of build, ask and why. Assumes nothing.
 use Prim.Native.Nat.{ℕ, _≤_, _<_, _^_}
 use native.Mathlib.Omega.{arith}
 use mathlib.Core.Path.{_≡_, refl, sym, ap, subst}
@@ -21,6 +21,8 @@ use Rattle.calls.specs.Call.{Call, pairOf}
 use Rattle.calls.specs.Refusals.{boundCheck, ruleCheck, beginChecks, enterChecks}
 use Rattle.calls.specs.Build.{Untouched, Made, buildsChecks, buildChecks, BuildSays}
 use Rattle.calls.specs.Ask.{moveSet, answered, unanswered, asksChecks, askChecks, askOf}
+use Rattle.calls.specs.Why.{whysChecks, whyOf}
+use Rattle.calls.proofs.Refused.{why-verdict}
 
 abbrev pub Small : Verdict → Type 0
 Small v = (numberOf v < 2 ^ 8) × (sideOf v < 2 ^ 8) × (rowOf v < 2 ^ 16)
@@ -53,18 +55,22 @@ then-small (Refused n s r) w h g = h
 joined-small : (cs ds : List Check) → Small (verdictOf cs) → (verdictOf cs ≡ Fine → Small (verdictOf ds)) → Small (verdictOf (cs ++ ds))
 joined-small cs ds h g = subst Small (sym (verdict-append cs ds)) (then-small (verdictOf cs) (verdictOf ds) h g)
 
+-- a line that names no row
+line : {n s : ℕ} → n < 2 ^ 8 → s < 2 ^ 8 → (n < 2 ^ 8) × (s < 2 ^ 8) × (0 < 2 ^ 16)
+line h side = (h, side, omega arith)
+
+none : {n : ℕ} → n < 2 ^ 8 → (n < 2 ^ 8) × (0 < 2 ^ 8) × (0 < 2 ^ 16)
+none h = line h (omega arith)
+
 -- ---- refusals 1 to 8
 
 module _ (bs : List ℕ) (s : ℕ) (side : s < 2 ^ 8) where
-  line : {n : ℕ} → n < 2 ^ 8 → (n < 2 ^ 8) × (s < 2 ^ 8) × (0 < 2 ^ 16)
-  line h = (h, side, omega arith)
-
   header-small : Small (verdictOf (headerChecks bs s))
   unfolding headerChecks
   header-small =
       lines-small (headerChecks bs s) (
-        line (omega arith),
-        (line (omega arith), (line (omega arith), (line (omega arith), (line (omega arith), (line (omega arith), tt))))),
+        line (omega arith) side,
+        (line (omega arith) side, (line (omega arith) side, (line (omega arith) side, (line (omega arith) side, (line (omega arith) side, tt))))),
       )
 
   -- past 5 there are at most 64 rows
@@ -84,9 +90,6 @@ module _ (bs : List ℕ) (s : ℕ) (side : s < 2 ^ 8) where
   checks-small = joined-small (headerChecks bs s) (rowChecks bs s) header-small (λ e. rows-small (rows-few e))
 
 -- ---- the calls
-
-none : {n : ℕ} → n < 2 ^ 8 → (n < 2 ^ 8) × (0 < 2 ^ 8) × (0 < 2 ^ 16)
-none h = (h, omega arith, omega arith)
 
 module _ (k : Call) where
   begin-small : Small (verdictOf (beginChecks k))
@@ -122,3 +125,12 @@ module _ (k : Call) where
   asked-small bytes c =
       let set = answered (moveSet (pairOf k) bytes c) in
       subst Small (sym (given-verdict (λ (a : Asked). a .verdict) unanswered set (λ v. refl) refl (verdictOf (askChecks k bytes c)))) (ask-checks-small bytes c)
+
+  pub explained-small : (bytes : List ℕ) (c : Conf) (x y : ℕ) → Small (whyOf k bytes c x y .verdict)
+  explained-small bytes c x y =
+      let rest : List Check = whysChecks (pairOf k) bytes c x y in
+      subst Small (sym (why-verdict k bytes c x y))
+      (joined-small (enterChecks k) rest enter-small (λ _. lines-small rest (
+        none (omega arith),
+        (none (omega arith), (line (omega arith) (omega arith), (line (omega arith) (omega arith), (line (omega arith) (omega arith), tt)))),
+      )))

@@ -20,7 +20,7 @@ use Rattle.rules.proofs.Bytes.{first-kept, kept-path}
 use Rattle.calls.specs.Call.{Call, pairOf}
 use Rattle.calls.specs.Refusals.{enterChecks}
 use Rattle.calls.specs.Past.{Askable}
-use Rattle.calls.proofs.Silent.{enter-good, answer-able, begin-done}
+use Rattle.calls.proofs.Silent.{enter-good, open-silent, answer-able, begin-done}
 use Rattle.calls.specs.declared.Run.{Run}
 use Rattle.calls.specs.declared.Cycle.{Cycle}
 use Rattle.calls.specs.declared.Stepped.{Stepped}
@@ -35,6 +35,8 @@ use Rattle.calls.proofs.Queues.{held-count}
 use Rattle.calls.proofs.Turns.{outcome-movable}
 use Rattle.calls.proofs.After.{run-held, run-good, good-after, mark-after}
 use Rattle.calls.proofs.Accepted.{step-keeps, step-accepts}
+use Rattle.calls.proofs.Refused.{step-returns}
+use Rattle.calls.proofs.StepSays.{PastLetters, refused-because}
 
 no-items : (l : List ℕ) → length l ≡ 0 → l ≡ []
 no-items [] e = refl
@@ -147,6 +149,11 @@ module _ (k : Call) (bytes : List ℕ) where
             step-accepts k bytes u fine (able (confOf u) within) (h .stands-at .good) move o incoming,
             mark-after u a b (incoming ∷ []) (outcome-movable X bytes u (able (confOf u) within) move o),
           );
+          refuses = λ c hx hy none.
+              let opens = open-silent X bytes u (able (confOf u) within) (h .stands-at .good) in
+              let past : PastLetters k bytes u c = record { enters = fine; opens = opens; writer-letter = hx; reader-letter = hy } in
+              let r = refused-because k bytes u c past none in
+              (r .0, r .1, step-returns k bytes u c (r .2));
         }
 
     -- demand 3, of every point of a run from the start, over any cycles

@@ -1,7 +1,7 @@
--- What is packed fits its place: kept and rounds are at most 4,096, ask's count and lowest at most 64. Assumes nothing.
+-- What is packed fits its place: kept and rounds are at most 4,096, ask's count and lowest at most 64, why's reason at most 6. Assumes nothing.
 use Prim.Native.Nat.{ℕ, _≤_}
 use native.Mathlib.Omega.{arith}
-use mathlib.Core.Path.{ap}
+use mathlib.Core.Path.{_≡_, refl, ap}
 use mathlib.Core.Logic.{inl, inr}
 use mathlib.Core.List.{List}
 use lib.Count.{ones-le, trailing-le}
@@ -13,17 +13,22 @@ use Rattle.rules.specs.declared.Pair.{Pair}
 use Rattle.rules.specs.declared.Conf.{Conf}
 use Rattle.rules.specs.Configurations.{size}
 use Rattle.rules.specs.Kept.{keptCount}
+use Rattle.rules.specs.Reasons.{Reason, Allowed, NotKept, NoWriterRow, NoReaderRow, Overflows, Underflows, LandsOutside, reasonNumber}
 use Rattle.rules.proofs.Bytes.{kept-few}
 use Rattle.rules.proofs.Laws.{rounds-between}
 use Rattle.calls.specs.declared.Built.{Built}
 use Rattle.calls.specs.declared.Asked.{Asked}
+use Rattle.calls.specs.declared.Explained.{Explained}
 use Rattle.calls.specs.Call.{Call, pairOf}
 use Rattle.calls.specs.Build.{Answer, Made, BuildSays}
 use Rattle.calls.specs.Ask.{moveSet, answered, unanswered, askChecks, askOf}
+use Rattle.calls.specs.Why.{whyOf}
 use Rattle.calls.specs.Past.{Entered}
 use Rattle.calls.proofs.Silent.{enter-known}
 use Rattle.calls.proofs.Asking.{set-below}
 use Rattle.calls.proofs.Largest.{build-cases, build-enters}
+use Rattle.calls.proofs.Refused.{why-returns}
+use Rattle.calls.proofs.WhySays.{why-found}
 
 -- "There are N = n1 × n2 × (B+1) of them, at most 4,096"
 pub size-few : (X : Pair) → Entered X → size X ≤ 4096
@@ -66,3 +71,24 @@ asked-few k bytes c = go (verdictOf (askChecks k bytes c))
     go : (v : Verdict) → FewMoves (given v unanswered (answered set))
     go Fine = (ones-le 64 set (set-below (pairOf k) bytes c), trailing-le 64 set)
     go (Refused n s r) = (omega arith, omega arith)
+
+-- ---- why
+
+pub reason-few : (a : Reason) → reasonNumber a ≤ 6
+reason-few Allowed = omega arith
+reason-few NotKept = omega arith
+reason-few NoWriterRow = omega arith
+reason-few NoReaderRow = omega arith
+reason-few Overflows = omega arith
+reason-few Underflows = omega arith
+reason-few LandsOutside = omega arith
+
+pub explained-few : (k : Call) (bytes : List ℕ) (c : Conf) (x y : ℕ) → whyOf k bytes c x y .reason ≤ 6
+explained-few k bytes c x y = go (why .verdict) refl
+  where
+    why : Explained
+    why = whyOf k bytes c x y
+
+    go : (v : Verdict) → why .verdict ≡ v → why .reason ≤ 6
+    go Fine e = let found = why-found k bytes c x y e in omega (arith, found .1, reason-few (found .0))
+    go (Refused n s r) e = omega (arith, ap (λ (z : Explained). z .reason) (why-returns k bytes c x y e))

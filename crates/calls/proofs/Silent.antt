@@ -7,7 +7,7 @@ use mathlib.Core.List.{List, [], _∷_, _++_}
 use lib.Dec.{ltb, leb, ltb→lt, leb→le}
 use lib.ListN.{length, take, length-take}
 use lib.Seq.{getD-take}
-use borrow.Author.Tests.{lt-ltb, le-ltb, le-leb, ltb-false, eq-eqb, not-false}
+use borrow.Author.Tests.{lt-ltb, lt-leb, le-ltb, le-leb, ltb-false, leb-false, eq-eqb, not-false}
 use Rattle.lists.specs.Search.{some}
 use Rattle.lists.proofs.Bools.{true-is, and-left, and-right, or-none}
 use Rattle.lists.proofs.Search.{some-none, none-some}
@@ -24,7 +24,7 @@ use Rattle.rules.specs.declared.Conf.{Conf}
 use Rattle.rules.specs.Configurations.{GoodPair, Within, size}
 use Rattle.calls.specs.declared.Run.{Run}
 use Rattle.calls.specs.Call.{Call, callOf, pairOf}
-use Rattle.calls.specs.Refusals.{boundCheck, ruleCheck, beginChecks, enterChecks, isOther, lentChecks, inRange, confCheck}
+use Rattle.calls.specs.Refusals.{boundCheck, ruleCheck, beginChecks, enterChecks, isOther, lentChecks, inRange, confCheck, letterChecks}
 use Rattle.calls.specs.Build.{buildsChecks}
 use Rattle.calls.specs.Ask.{asksChecks}
 use Rattle.rules.specs.Kept.{IsKept}
@@ -143,6 +143,17 @@ module _ (X : Pair) (bytes : List ℕ) (u : Run) where
 
   pub open-silent : Askable X bytes (confOf u) → GoodRun X u → verdictOf (openChecks X bytes u) ≡ Fine
   open-silent able good = past-silent X bytes (runCheck X u) able (rw (within-range X (confOf u) (able .within), no-places good))
+
+-- ---- 14
+
+module _ (X : Pair) (x y : ℕ) where
+  pub letters-known : verdictOf (letterChecks X x y) ≡ Fine → (x < X .writer .letters) × (y < X .reader .letters)
+  letters-known fine =
+      let s = fine-silent (letterChecks X x y) fine in
+      (leb-false (X .writer .letters) x (s .0), leb-false (X .reader .letters) y (s .1 .0))
+
+  pub letters-silent : x < X .writer .letters → y < X .reader .letters → verdictOf (letterChecks X x y) ≡ Fine
+  letters-silent hx hy = rw (lt-leb _ _ hx, lt-leb _ _ hy)
 
 -- ---- begin, past 9
 

@@ -15,7 +15,7 @@ use Rattle.rules.specs.Tools.Computed.{allowedTest}
 use Rattle.rules.proofs.Tools.RowsFor.{found-may}
 use Rattle.rules.proofs.Passes.{fits, enough}
 use Rattle.rules.proofs.Places.{may-good}
-use Rattle.rules.proofs.Tools.Decided.{allowed-test}
+use Rattle.rules.proofs.Tools.Reasoned.{allowed-test}
 use Rattle.calls.specs.Past.{Askable, Movable}
 use Rattle.calls.specs.declared.Run.{Run}
 use Rattle.calls.specs.declared.Cycle.{Cycle}

@@ -9,12 +9,14 @@ use Rattle.format.specs.Verdicts.{numberOf, sideOf, rowOf}
 use Rattle.rules.specs.declared.Conf.{Conf}
 use Rattle.calls.specs.declared.Built.{Built}
 use Rattle.calls.specs.declared.Asked.{Asked}
+use Rattle.calls.specs.declared.Explained.{Explained}
 use Rattle.calls.specs.Call.{Call}
 use Rattle.calls.specs.Ask.{askOf}
-use Rattle.calls.specs.Packed.{packedWith, packedBuilt, packedAsked, PackedBuild}
+use Rattle.calls.specs.Why.{whyOf}
+use Rattle.calls.specs.Packed.{packedWith, packedBuilt, packedAsked, packedExplained, PackedBuild}
 use Rattle.calls.proofs.Largest.{one-result}
-use Rattle.calls.proofs.Ranges.{built-few, asked-few}
-use Rattle.calls.proofs.Numbers.{Small, built-small, asked-small}
+use Rattle.calls.proofs.Ranges.{built-few, asked-few, explained-few}
+use Rattle.calls.proofs.Numbers.{Small, built-small, asked-small, explained-small}
 
 -- the digits of z are these: number, side and row of the verdict, and the last two places
 pub record Unpacked (z : ℕ) (v : Verdict) (fourth fifth : ℕ) : Type 0 where
@@ -39,6 +41,9 @@ UnpackedBuilt z b = Unpacked z (b .verdict) (b .kept) (b .rounds)
 abbrev pub UnpackedAsked : ℕ → Asked → Type 0
 UnpackedAsked z a = Unpacked z (a .verdict) (a .count) (a .lowest)
 
+abbrev pub UnpackedExplained : ℕ → Explained → Type 0
+UnpackedExplained z e = Unpacked z (e .verdict) (e .reason) 0
+
 module _ (k : Call) where
   -- build's number, side, row, kept and rounds, out of what the entry point returns
   pub build-fields : (before after : List ℕ) (z : ℕ) (p : PackedBuild k before after z) → UnpackedBuilt z (p .built)
@@ -53,6 +58,12 @@ module _ (k : Call) where
   ask-fields bytes c =
       let a : Asked = askOf k bytes c in
       unpack (a .verdict) (a .count) (a .lowest) (asked-small k bytes c) (omega (arith, asked-few k bytes c .0))
+
+  -- why's number, side, row and reason, and nothing above
+  pub why-fields : (bytes : List ℕ) (c : Conf) (x y : ℕ) → UnpackedExplained (packedExplained (whyOf k bytes c x y)) (whyOf k bytes c x y)
+  why-fields bytes c x y =
+      let e : Explained = whyOf k bytes c x y in
+      unpack (e .verdict) (e .reason) 0 (explained-small k bytes c x y) (omega (arith, explained-few k bytes c x y))
 
   -- there is one packed number, and one content of the lent buffer
   pub one-packed : (before after₁ after₂ : List ℕ) (y z : ℕ) → PackedBuild k before after₁ y → PackedBuild k before after₂ z → (y ≡ z) × (after₁ ≡ after₂)

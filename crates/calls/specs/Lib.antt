@@ -2,6 +2,7 @@ pub mod Call
 pub mod Refusals
 pub mod Build
 pub mod Ask
+pub mod Why
 pub mod Items
 pub mod Runs
 pub mod Begin

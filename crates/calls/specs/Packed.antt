@@ -1,5 +1,6 @@
 -- Document 01: "An entry point for the generator returns one 64-bit number: ask's set, or number + 2^8 × side + 2^16 × row + 2^32 × kept +
--- 2^48 × rounds, with ask's count and lowest in the last two places." Assumes nothing.
+-- 2^48 × rounds, with ask's count and lowest in the last two places." Why has its reason in the place of kept, and 0 in the last.
+-- Assumes nothing.
 use Prim.Native.Nat.{ℕ, _+_, _*_, _^_}
 use mathlib.Core.Path.{_≡_}
 use mathlib.Core.List.{List}
@@ -7,6 +8,7 @@ use Rattle.format.specs.declared.Verdict.{Verdict}
 use Rattle.format.specs.Verdicts.{numberOf, sideOf, rowOf}
 use Rattle.calls.specs.declared.Asked.{Asked}
 use Rattle.calls.specs.declared.Built.{Built}
+use Rattle.calls.specs.declared.Explained.{Explained}
 use Rattle.calls.specs.Call.{Call}
 use Rattle.calls.specs.Build.{BuildSays}
 
@@ -22,6 +24,9 @@ packedBuilt b = packedWith (b .verdict) (b .kept) (b .rounds)
 
 abbrev pub packedAsked : Asked → ℕ
 packedAsked a = packedWith (a .verdict) (a .count) (a .lowest)
+
+abbrev pub packedExplained : Explained → ℕ
+packedExplained e = packedWith (e .verdict) (e .reason) 0
 
 -- z is the packed number of what build answers, and after is what build leaves in the lent buffer
 pub record PackedBuild (k : Call) (before after : List ℕ) (z : ℕ) : Type 0 where

@@ -1,19 +1,20 @@
 -- Demand 3, of each point of a run: what holds where a walk stands, over the call's own arguments. Bytes past the first N are never looked at.
 -- Assumes nothing. (That it holds of every walk from `begin`'s run is proved: run-points in proofs/Points.antt.)
-use Prim.Native.Nat.{ℕ, _-_, _≤_}
+use Prim.Native.Nat.{ℕ, _-_, _≤_, _<_}
 use mathlib.Core.Path.{_≡_}
 use mathlib.Core.List.{List, [], _∷_, _++_}
 use lib.ListN.{length, take}
 use Rattle.format.specs.declared.Row.{Row}
-use Rattle.format.specs.declared.Verdict.the-variants.{Fine}
+use Rattle.format.specs.declared.Verdict.the-variants.{Fine, Refused}
 use Rattle.rules.specs.Configurations.{Outcome, finish, size}
 use Rattle.rules.specs.Sets.{AllowedIn}
+use Rattle.rules.specs.Reasons.{Reason, reasonNumber, ReasonIs}
 use Rattle.rules.specs.Kept.{KeptAt, keptCount}
 use Rattle.calls.specs.Call.{Call, pairOf}
 use Rattle.calls.specs.declared.Run.{Run}
 use Rattle.calls.specs.declared.Cycle.{Cycle}
 use Rattle.calls.specs.Runs.{confOf, heldOf, runAt}
-use Rattle.calls.specs.Step.{doneBy, stepOf}
+use Rattle.calls.specs.Step.{doneBy, refusedStep, stepOf}
 use Rattle.calls.specs.Walks.{Walked, walk}
 
 -- the cycle of the move x.y in which the sides take the rows w and r
@@ -50,3 +51,10 @@ module _ (k : Call) (bytes : List ℕ) where
         → Outcome (pairOf k) (confOf (w .run)) x y a b
         → (stepOf k bytes (w .run) (cycleOf x y a b incoming) ≡ doneBy (w .run) a b (incoming ∷ []))
         × (doneBy (w .run) a b (incoming ∷ []) .mark ≡ b .item)
+    -- request b: a move of the tables' letters that is not allowed is refused with 15, and the row is the reason; whatever the answers and the
+    -- item that waits, the run stands
+    pub refuses : (c : Cycle) → c .«writer_letter» < pairOf k .writer .letters → c .«reader_letter» < pairOf k .reader .letters
+        → ¬ AllowedIn (pairOf k) (KeptAt (pairOf k) bytes) (confOf (w .run)) (c .«writer_letter») (c .«reader_letter»)
+        → (reason : Reason)
+        × ReasonIs (pairOf k) (KeptAt (pairOf k) bytes) (confOf (w .run)) (c .«writer_letter») (c .«reader_letter») reason
+        × (stepOf k bytes (w .run) c ≡ refusedStep (w .run) (Refused 15 0 (reasonNumber reason)))

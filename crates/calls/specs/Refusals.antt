@@ -10,6 +10,7 @@ use lib.ListN.{length}
 use lib.Dec.{ltb, leb}
 use Rattle.lists.specs.Search.{some}
 use Rattle.format.specs.declared.Side.the-variants.{Writer, Reader}
+use Rattle.format.specs.declared.Table.{Table}
 use Rattle.format.specs.Verdicts.{sideNumber, Check, when}
 use Rattle.format.specs.Format.{byte}
 use Rattle.format.specs.Reads.{checks}
@@ -44,7 +45,7 @@ isOther bytes p = ltb 1 (byte bytes p)
 abbrev pub bytesCheck : ℕ → List ℕ → Check
 bytesCheck n bytes = when 12 0 0 (some (isOther bytes) 0 n)
 
--- kept bytes that are lent (ask, step): 10, 12
+-- kept bytes that are lent (ask, why, step): 10, 12
 abbrev pub lentChecks : ℕ → List ℕ → List Check
 lentChecks n bytes = roomCheck n bytes ∷ bytesCheck n bytes ∷ []
 
@@ -54,3 +55,10 @@ inRange X c = ltb (c .writer) (X .writer .states) && (ltb (c .reader) (X .reader
 
 abbrev pub confCheck : Pair → Conf → Check
 confCheck X c = when 13 0 0 (not (inRange X c))
+
+-- letter not below d (why, step): "In 14 and 16 the writer comes first"
+abbrev pub letterCheck : Table → ℕ → ℕ → Check
+letterCheck t side letter = when 14 side 0 (leb (t .letters) letter)
+
+abbrev pub letterChecks : Pair → ℕ → ℕ → List Check
+letterChecks X x y = letterCheck (X .writer) 1 x ∷ letterCheck (X .reader) 2 y ∷ []

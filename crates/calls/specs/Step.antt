@@ -1,5 +1,6 @@
 -- Document 01, step: "A step takes a run, kept bytes, two letters, the two answers seen and an incoming item." Its refusals in their order, and
--- what it returns. Assumes nothing.
+-- what it returns. Request b: 15 carries the reason of the move; that it is the one of the rules (`ReasonIs`) is proved: fifteen-reason in
+-- proofs/StepSays.antt. Assumes nothing.
 use Prim.Native.Nat.{ℕ}
 use mathlib.Core.Path.{_≡_}
 use mathlib.Core.Bool.{Bool, not, _||_}
@@ -16,9 +17,10 @@ use Rattle.format.specs.Reads.{readOf}
 use Rattle.format.specs.Good.{row}
 use Rattle.rules.specs.declared.Pair.{Pair}
 use Rattle.rules.specs.Configurations.{May, size, after}
-use Rattle.rules.specs.Tools.Computed.{rowWith, allowedTest}
+use Rattle.rules.specs.Reasons.{reasonNumber}
+use Rattle.rules.specs.Tools.Computed.{rowWith, reasonOf, allowedTest}
 use Rattle.calls.specs.Call.{Call, pairOf}
-use Rattle.calls.specs.Refusals.{enterChecks, lentChecks, inRange}
+use Rattle.calls.specs.Refusals.{enterChecks, lentChecks, inRange, letterChecks}
 use Rattle.calls.specs.declared.Run.{Run}
 use Rattle.calls.specs.declared.Cycle.{Cycle}
 use Rattle.calls.specs.declared.Stepped.{Stepped}
@@ -49,13 +51,12 @@ nonzero items i = not (eqb (heldAt items i) 0)
 abbrev pub runCheck : Pair → Run → Check
 runCheck X u = when 13 0 0 (not (inRange X (confOf u)) || some (nonzero (u .items)) (u .level) 16)
 
--- letter not below d
-abbrev pub letterCheck : Table → ℕ → ℕ → Check
-letterCheck t side letter = when 14 side 0 (leb (t .letters) letter)
-
--- move not allowed
+-- move not allowed: "A step that is refused with 15 carries [the reason] in the row field" (request b)
 abbrev pub moveCheck : Pair → List ℕ → Run → Cycle → Check
-moveCheck X bytes u c = when 15 0 0 (not (allowedTest X bytes (confOf u) (c .«writer_letter») (c .«reader_letter»)))
+moveCheck X bytes u c =
+    let x : ℕ = c .«writer_letter» in
+    let y : ℕ = c .«reader_letter» in
+    when 15 0 (reasonNumber (reasonOf X bytes (confOf u) x y)) (not (allowedTest X bytes (confOf u) x y))
 
 -- no row for that state, letter and answer
 abbrev pub rowCheck : Table → ℕ → ℕ → Check
@@ -68,12 +69,8 @@ openChecks X bytes u = lentChecks (size X) bytes ++ (runCheck X u ∷ [])
 -- of a cycle: 14, 15, 16
 abbrev pub turnChecks : Pair → List ℕ → Run → Cycle → List Check
 turnChecks X bytes u c =
-    letterCheck (X .writer) 1 (c .«writer_letter»)
-    ∷ letterCheck (X .reader) 2 (c .«reader_letter»)
-    ∷ moveCheck X bytes u c
-    ∷ rowCheck (X .writer) 1 (writerFound X u c)
-    ∷ rowCheck (X .reader) 2 (readerFound X u c)
-    ∷ []
+    letterChecks X (c .«writer_letter») (c .«reader_letter»)
+    ++ (moveCheck X bytes u c ∷ rowCheck (X .writer) 1 (writerFound X u c) ∷ rowCheck (X .reader) 2 (readerFound X u c) ∷ [])
 
 abbrev pub stepChecks : Call → List ℕ → Run → Cycle → List Check
 stepChecks k bytes u c = enterChecks k ++ (openChecks (pairOf k) bytes u ++ turnChecks (pairOf k) bytes u c)
@@ -104,9 +101,9 @@ refusedStep u v = record { verdict = v; run = u; item = 0; mark = 0 }
 
 -- what a cycle does, past the call's own checks
 unfoldable pub turnOf : Pair → List ℕ → Run → Cycle → Stepped
-unfolding seek allowedTest doneBy
+unfolding seek reasonOf allowedTest doneBy
 turnOf X bytes u c = given (verdictOf (turnChecks X bytes u c)) (refusedStep u) (doneOf X u c)
 
 unfoldable pub stepOf : Call → List ℕ → Run → Cycle → Stepped
-unfolding readOf seek allowedTest doneBy
+unfolding readOf seek reasonOf allowedTest doneBy
 stepOf k bytes u c = given (verdictOf (stepChecks k bytes u c)) (refusedStep u) (doneOf (pairOf k) u c)

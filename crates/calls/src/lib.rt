@@ -9,6 +9,12 @@ pub struct Asked {
     pub lowest: u32,
 }
 
+// The reason of a move by its number, 0 where the call is refused.
+pub struct Explained {
+    pub verdict: Verdict,
+    pub reason: u8,
+}
+
 pub struct Built {
     pub verdict: Verdict,
     pub kept: u64,

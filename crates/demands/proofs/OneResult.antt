@@ -1,4 +1,4 @@
--- Two results that satisfy the contract of the same call are equal. read, ask, begin and step lend nothing that they may write, and their
+-- Two results that satisfy the contract of the same call are equal. read, ask, why, begin and step lend nothing that they may write, and their
 -- contracts are equations; build's says the lent buffer too (from `one-result` of the crate calls). Assumes nothing.
 use Prim.Native.Nat.{ℕ}
 use mathlib.Core.Path.{_≡_, sym, _∙_}
@@ -10,6 +10,8 @@ use Rattle.rules.specs.declared.Conf.{Conf}
 use Rattle.calls.specs.Call.{Call}
 use Rattle.calls.specs.declared.Asked.{Asked}
 use Rattle.calls.specs.Ask.{askOf}
+use Rattle.calls.specs.declared.Explained.{Explained}
+use Rattle.calls.specs.Why.{whyOf}
 use Rattle.calls.specs.declared.Built.{Built}
 use Rattle.calls.specs.Build.{BuildSays}
 use Rattle.calls.proofs.Largest.{one-result}
@@ -30,6 +32,9 @@ one-read bytes side = one-of
 module _ (k : Call) where
   pub one-ask : (bytes : List ℕ) (c : Conf) {a b : Asked} → a ≡ askOf k bytes c → b ≡ askOf k bytes c → a ≡ b
   one-ask bytes c = one-of
+
+  pub one-why : (bytes : List ℕ) (c : Conf) (x y : ℕ) {a b : Explained} → a ≡ whyOf k bytes c x y → b ≡ whyOf k bytes c x y → a ≡ b
+  one-why bytes c x y = one-of
 
   pub one-begin : {a b : Begun} → a ≡ beginOf k → b ≡ beginOf k → a ≡ b
   one-begin = one-of

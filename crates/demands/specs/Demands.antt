@@ -72,7 +72,8 @@ module _ (k : Call) where
     pub rounds-none : b .NoConverter → RoundsTrue (b .rounds)
 
   pub record Demand3 (before after : List ℕ) (b : Read) : Type 1 where
-    -- "Take a run from the start under an accepted answer, each side answering by its own table": at each point of it, whatever the cycles
+    -- "Take a run from the start under an accepted answer, each side answering by its own table": at each point of it, whatever the cycles.
+    -- Request b's reason stands in Point too: there a move that is not allowed is refused with 15 and its reason, and the run stands
     pub runs : b .Done → (cs : List Cycle) → Point k after (walk k after cs (beginOf k .run))
     -- "Any other bridge for the same tables and bound, deciding even from its whole record, that permits only moves with rows on both sides,
     -- never breaks the buffer tests and can always still finish, permits at each point it meets only moves ours permits"

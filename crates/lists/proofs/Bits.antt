@@ -1,11 +1,11 @@
 -- A set of moves as a number: its digits, its bound, how many of them are 1, the lowest that is 1, and a loop that adds one move at a time.
 -- Assumes nothing.
 use mathlib.Core.Path.{_≡_, refl, sym, ap, ap₂, _∙_}
-use mathlib.Core.Logic.{_↔_}
+use mathlib.Core.Logic.{_↔_, ⊎-elim}
 use mathlib.Core.Bool.{Bool, true, false, cond}
 use mathlib.Core.List.{_∷_}
 use Prim.Native.Nat.{ℕ, zero, suc, _+_, _*_, _/_, _%_, _^_, _≤_, _<_, suc-le-suc, zero-le}
-use native.Mathlib.Nat.{add-zero, suc-add, add-suc, div-one, pow-suc, pow-succ', div-div-eq-div-mul, le-of-suc-le-suc, not-suc-le-zero}
+use native.Mathlib.Nat.{eq-or-lt-of-le, add-zero, suc-add, add-suc, div-one, pow-suc, pow-succ', div-div-eq-div-mul, le-of-suc-le-suc, not-suc-le-zero}
 use native.Mathlib.Numerals.{add-one}
 use native.Mathlib.Omega.{arith}
 use lib.Dec.{T}
@@ -124,7 +124,7 @@ module _ (f : ℕ → Bool) where
 
   -- ---- a loop that adds the moves from the lowest on
 
-  pub number-none : number f 0 ≡ 0
+  number-none : number f 0 ≡ 0
   unfolding number
   number-none = refl
 
@@ -139,8 +139,18 @@ unfolding number
 number-same f g zero e = refl
 number-same f g (suc n) e = ap₂ (λ (b : Bool) (x : ℕ). bit b * 2 ^ n + x) (e n (omega arith)) (number-same f g n (λ m h. e m (omega arith)))
 
+-- bits that are off add nothing
+pub number-skip : (f : ℕ → Bool) (m n : ℕ) → m ≤ n → ((i : ℕ) → m ≤ i → i < n → f i ≡ false) → number f n ≡ number f m
+unfolding number
+number-skip f m zero h off = let e : 0 ≡ m = omega arith in ap (number f) e
+number-skip f m (suc n) h off =
+    ⊎-elim
+    (λ (e : m ≡ suc n). ap (number f) (sym e))
+    (λ (l : m < suc n).
+    let none : bit (f n) * 2 ^ n + number f n ≡ number f n = rw (off n (omega arith) (omega arith)) (omega arith) in
+    none ∙ number-skip f m n (omega arith) (λ i k j. off i k (omega arith)))
+    (eq-or-lt-of-le h)
+
 -- a test that no move passes
 pub number-off : (f : ℕ → Bool) (n : ℕ) → ((m : ℕ) → m < n → f m ≡ false) → number f n ≡ 0
-unfolding number
-number-off f zero e = refl
-number-off f (suc n) e = rw (e n (omega arith), number-off f n (λ m h. e m (omega arith))) (omega arith)
+number-off f n off = number-skip f 0 n zero-le (λ i l h. off i h) ∙ number-none f

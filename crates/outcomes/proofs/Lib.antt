@@ -1,6 +1,5 @@
 pub mod Signed
 pub mod Bases
-pub mod Allowed
+pub mod MoveTests
 pub mod Sides
 pub mod Framed
-pub mod Landing

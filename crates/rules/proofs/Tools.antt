@@ -1,3 +1,4 @@
 pub mod RowsFor
 pub mod Decided
+pub mod Reasoned
 pub mod Passage

@@ -2,42 +2,26 @@
 use Prim.Native.Nat.{ℕ, _≤_, _<_}
 use native.Mathlib.Omega.{arith}
 use mathlib.Core.Path.{_≡_, sym, _∙_}
-use mathlib.Core.Bool.{Bool, true, false}
+use mathlib.Core.Bool.{true, false}
 use mathlib.Core.List.{List, _∷_}
 use lib.Dec.{leb}
-use borrow.Author.Tests.{le-leb, lt-leb, leb-false}
+use borrow.Author.Tests.{le-leb, lt-leb, eq-eqb, ne-eqb}
 use Rattle.format.specs.declared.Verdict.{Verdict}
 use Rattle.format.specs.declared.Verdict.the-variants.{Fine, Refused}
 use Rattle.format.specs.Verdicts.{Check, verdictOf, given}
 use Rattle.format.specs.Good.{row}
-use Rattle.format.proofs.Verdicts.{fine-silent, first-refuses, then-decides}
+use Rattle.format.proofs.Verdicts.{first-refuses, then-decides}
 use Rattle.rules.specs.declared.Pair.{Pair}
-use Rattle.rules.specs.Tools.Computed.{allowedTest}
+use Rattle.rules.specs.Reasons.{Reason, reasonNumber}
+use Rattle.rules.specs.Tools.Computed.{reasonOf, allowedTest}
 use Rattle.calls.specs.declared.Run.{Run}
 use Rattle.calls.specs.declared.Cycle.{Cycle}
+use Rattle.calls.specs.Refusals.{letterChecks}
 use Rattle.calls.specs.Runs.{confOf}
 use Rattle.calls.specs.Step.{incomingOf, writerFound, readerFound, moveCheck, doneBy, doneOf, refusedStep, turnOf}
 use Rattle.calls.specs.Past.{Askable, Movable}
 use Rattle.calls.proofs.Turns.{found-movable}
-use Rattle.turns.specs.Cycles.{letterChecks, rowChecks, byAnswers, Answerable}
-
--- ---- 14
-
-module _ (X : Pair) (x y : ℕ) where
-  pub writer-letter : X .writer .letters ≤ x → Refused 14 1 0 ≡ verdictOf (letterChecks X x y)
-  writer-letter h = rw (le-leb _ _ h)
-
-  module _ (hw : x < X .writer .letters) where
-    pub reader-letter : X .reader .letters ≤ y → Refused 14 2 0 ≡ verdictOf (letterChecks X x y)
-    reader-letter h = rw (lt-leb _ _ hw, le-leb _ _ h)
-
-    pub both-letters : y < X .reader .letters → Fine ≡ verdictOf (letterChecks X x y)
-    both-letters h = rw (lt-leb _ _ hw, lt-leb _ _ h)
-
-  pub letters-in : verdictOf (letterChecks X x y) ≡ Fine → (x < X .writer .letters) × (y < X .reader .letters)
-  letters-in fine =
-      let s = fine-silent (letterChecks X x y) fine in
-      (leb-false (X .writer .letters) x (s .0), leb-false (X .reader .letters) y (s .1 .0))
+use Rattle.turns.specs.Cycles.{rowChecks, byAnswers, Answerable}
 
 -- ---- 16, and the rows that are found
 
@@ -75,17 +59,25 @@ module _ (X : Pair) (bytes : List ℕ) (u : Run) (c : Cycle) where
   unfolding turnOf
   turn-refused told e = first-refuses (refusedStep u) (doneOf X u c) letters past told e
 
-  module _ (fine : verdictOf letters ≡ Fine) {t : Bool} (test : t ≡ allowedTest X bytes (confOf u) (c .«writer_letter») (c .«reader_letter»)) where
+  abbrev reason : Reason
+  reason = reasonOf X bytes (confOf u) (c .«writer_letter») (c .«reader_letter»)
+
+  module _ (fine : verdictOf letters ≡ Fine) {n : ℕ} (told : n ≡ reasonNumber reason) where
     past-decides : given (verdictOf past) (refusedStep u) (doneOf X u c) ≡ turnOf X bytes u c
     unfolding turnOf
     past-decides = then-decides (refusedStep u) (doneOf X u c) letters past fine
 
-    pub not-allowed : t ≡ false → refusedStep u (Refused 15 0 0) ≡ turnOf X bytes u c
-    not-allowed e = rw (sym test ∙ e) at past-decides
+    pub not-allowed : ¬ (n ≡ 0) → refusedStep u (Refused 15 0 n) ≡ turnOf X bytes u c
+    unfolding allowedTest
+    not-allowed out = rw (sym told, ne-eqb n 0 out) at past-decides
 
-    pub allowed-on : t ≡ true → byAnswers X u c ≡ turnOf X bytes u c
+    test-on : n ≡ 0 → allowedTest X bytes (confOf u) (c .«writer_letter») (c .«reader_letter») ≡ true
+    unfolding allowedTest
+    test-on e = eq-eqb _ 0 (sym told ∙ e)
+
+    pub allowed-on : n ≡ 0 → byAnswers X u c ≡ turnOf X bytes u c
     unfolding byAnswers
-    allowed-on e = rw (sym test ∙ e) at past-decides
+    allowed-on e = rw (test-on e) at past-decides
 
-    pub answerable : Askable X bytes (confOf u) → t ≡ true → Answerable X u c
-    answerable able e = record { good = able .good; movable = λ hw hr. found-movable X bytes u c (sym test ∙ e) hw hr able }
+    pub answerable : Askable X bytes (confOf u) → n ≡ 0 → Answerable X u c
+    answerable able e = record { good = able .good; movable = λ hw hr. found-movable X bytes u c (test-on e) hw hr able }

@@ -13,14 +13,10 @@ use Rattle.calls.specs.declared.Run.{Run}
 use Rattle.calls.specs.declared.Cycle.{Cycle}
 use Rattle.calls.specs.declared.Stepped.{Stepped}
 use Rattle.calls.specs.Runs.{heldAt}
-use Rattle.calls.specs.Step.{writerFound, readerFound, letterCheck, rowCheck, doneBy, doneOf, refusedStep}
+use Rattle.calls.specs.Step.{writerFound, readerFound, rowCheck, doneBy, doneOf, refusedStep}
 use Rattle.calls.specs.Past.{Movable}
 
 -- ---- the parts of a cycle
-
--- 14, of the letters x and y
-abbrev pub letterChecks : Pair → ℕ → ℕ → List Check
-letterChecks X x y = letterCheck (X .writer) 1 x ∷ letterCheck (X .reader) 2 y ∷ []
 
 -- 16
 abbrev pub rowChecks : Pair → Run → Cycle → List Check

@@ -4,12 +4,11 @@ ghost use mathlib.Core.Bool.{_&&_};
 ghost use mathlib.Core.List.{[], _∷_};
 ghost use Prim.Native.Nat.{_≤_};
 ghost use lib.Dec.{eqb};
-ghost use Rattle.format.specs.Verdicts.{verdictOf};
-ghost use Rattle.rules.specs.Tools.Computed.{isFor, rowWith, allowedTest};
+ghost use Rattle.rules.specs.Tools.Computed.{isFor, rowWith};
 ghost use Rattle.calls.specs.Runs.{confOf};
 ghost use Rattle.calls.specs.Step.{doneBy, refusedStep, turnOf};
 ghost use Rattle.calls.specs.Past.{Askable, Movable};
-ghost use Rattle.turns.specs.Cycles.{letterChecks, byAnswers, Answerable};
+ghost use Rattle.turns.specs.Cycles.{byAnswers, Answerable};
 
 mod items;
 
@@ -21,44 +20,23 @@ use format::Table;
 use format::Verdict;
 use items::front;
 use items::moved;
-use numbers::columns::columns;
-use numbers::places::frame_of;
-use outcomes::allows;
-use outcomes::is_kept;
 use outcomes::landed;
-use outcomes::spot_at;
+use reasons::ALLOWED;
+use reasons::check_letters;
+use reasons::reason_at;
 use rules::Conf;
 use rules::Pair;
 use tables::refuse;
 
-// Refusal 14. Compared as wide numbers, so that 256 is not taken for 0.
-fn check_letters(p: Pair, x: u64, y: u64) -> Verdict
-    ensures { λ z. ⌜ z ≡ verdictOf (letterChecks p x y) ⌝ }
+// Refusal 15: "carries [the reason] in the row field" (request b).
+fn not_allowed(reason: u8) -> Verdict
+    ensures { λ z. ⌜ z ≡ Verdict.Refused 15 0 reason ⌝ }
 {
-    if (p.writer.letters as u64) <= x {
-        return refuse(14, 1);
+    Verdict::Refused {
+        number: 15,
+        side: 0,
+        row: reason as u16,
     }
-    if (p.reader.letters as u64) <= y {
-        return refuse(14, 2);
-    }
-    Verdict::Fine
-}
-
-// Is the move x.y allowed at a configuration, over bytes of which the first N are 0 or 1?
-fn is_allowed(k: &[u8], p: Pair, c: Conf, x: u8, y: u8) -> bool
-    requires { ⌜ Askable p (now k) c ⌝ }
-    ensures { λ z. ⌜ z ≡ allowedTest p (now (k .entry)) c x y ⌝ }
-{
-    let f = frame_of(p);
-    if !is_kept(k, f, c) {
-        return false;
-    }
-    let writer = p.writer;
-    let reader = p.reader;
-    let w = columns(writer);
-    let r = columns(reader);
-    let s = spot_at(&w, &r, f, c);
-    allows(k, &w, &r, s, x, y)
 }
 
 fn is_for(row: Row, state: u64, letter: u64, answer: u64) -> bool
@@ -165,8 +143,9 @@ pub fn turn(p: Pair, kept: &[u8], run: Run, cycle: Cycle) -> Stepped
         reader: run.reader as u8,
         level: run.level as u8,
     };
-    if is_allowed(kept, p, c, x as u8, y as u8) {
+    let reason = reason_at(kept, p, c, x as u8, y as u8);
+    if reason == ALLOWED {
         return by_answers(p, run, cycle);
     }
-    refused(refuse(15, 0), run)
+    refused(not_allowed(reason), run)
 }

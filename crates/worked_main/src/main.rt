@@ -2,6 +2,7 @@
 // prints what it answers: the file stdout has what it must print.
 mod asking;
 mod building;
+mod explaining;
 mod reading;
 mod running;
 mod writing;
@@ -10,6 +11,7 @@ fn main() {
     reading::run();
     building::run();
     asking::run();
+    explaining::run();
     running::run();
     writing::run();
 }

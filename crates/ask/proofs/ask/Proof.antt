@@ -22,10 +22,10 @@ returns : tie.Need-returns
 returns c = c .refused .ensures ∙ ask-refused _ _ _ (c .before .before .before .enter .ensures) (c .before .enum-told2 .given .1)
 
 ask-pair-requires : tie.Need-ask-pair-requires
-ask-pair-requires c κs = entry-known (c .before .before .before .enter .ensures) (c .before .enum-told .given .1)
+ask-pair-requires c κs = entry-known (c .before .before .enter .ensures) (c .enum-told .given .1)
 
 returns-2 : tie.Need-returns-2
-returns-2 c = c .ask-pair .ensures ∙ ask-goes-on _ _ _ (c .before .before .before .before .enter .ensures) (c .before .before .enum-told .given .1)
+returns-2 c = c .ask-pair .ensures ∙ ask-goes-on _ _ _ (c .before .before .before .enter .ensures) (c .before .enum-told .given .1)
 
 pub ask-spec : {M : Type 1} → statement M
 ask-spec =

@@ -1,50 +1,32 @@
--- `ask::ask_pair` meets its contract: 10, 12 and 13 in their order, then the set. Assumes nothing.
+-- `ask::ask_pair` meets its contract: the refusals, then the set. Assumes nothing.
 use native.Mathlib.Omega.{arith}
-use mathlib.Core.Path.{_≡_, ap, _∙_}
-use Rattle.format.specs.Verdicts.{verdictOf}
+use mathlib.Core.Path.{ap, _∙_}
 use Rattle.rules.specs.declared.Conf.{Conf}
-use Rattle.rules.specs.Configurations.{confWith, size}
-use Rattle.calls.specs.Refusals.{lentChecks, inRange}
-use Rattle.calls.specs.Ask.{answered, unanswered}
+use Rattle.rules.specs.Configurations.{confWith}
+use Rattle.calls.specs.Ask.{answered}
 use Rattle.calls.specs.Past.{Askable}
-use Rattle.outcomes.proofs.Framed.{framed-lent, framed-range}
-use Rattle.ask.proofs.Answers.{lent-refused, ask-outside, ask-inside, ask-able}
+use Rattle.ask.proofs.Answers.{asks-refused, asks-answered, ask-able}
 use borrow.Author.Needs.{needs}
 use Rattle.ask.proofs.ask_pair.Statement.{statement}
 use Rattle.ask.proofs.ask_pair.Tie as tie
 
-abbrev entry : tie.After-check-bytes → tie.Start
-entry c = c .before .before .before .before
+abbrev asked : tie.Start → Conf
+asked e = let a = e .args in confWith (a .writer-state) (a .reader-state) (a .level)
 
--- 10 and 12, by the pair
-told : (c : tie.After-check-bytes) → c .check-bytes .result ≡ verdictOf (lentChecks (size (entry c .args .p)) (entry c .args .kept .now))
-told c =
-    let a = entry c .args in
-    framed-lent (a .p) (c .before .before .frame-of .ensures) (a .kept .now) (c .before .places .ensures) (c .check-bytes .ensures)
+-- past the refusals
+abbrev checked : tie.After-enum-told → tie.After-check-asked
+checked c = c .before .before
 
--- 13, by the pair
-abbrev past : tie.After-in-range → tie.After-check-bytes
-past c = c .before .before .before
+abbrev start : tie.After-enum-told → tie.Start
+start c = checked c .before .before
 
-abbrev asked : tie.After-in-range → Conf
-asked c = let a = entry (past c) .args in confWith (a .writer-state) (a .reader-state) (a .level)
-
-range : (c : tie.After-in-range) → c .in-range .result ≡ inRange (entry (past c) .args .p) (asked c)
-range c = framed-range (entry (past c) .args .p) (past c .before .before .frame-of .ensures) (asked c) (c .in-range .ensures)
-
-able : (c : tie.Then1) → Askable (entry (past (c .before)) .args .p) (entry (past (c .before)) .args .kept .now) (asked (c .before))
+able : (c : tie.After-enum-told) → Askable (start c .args .p) (start c .args .kept .now) (asked (start c))
 able c =
-    let i = c .before in
-    ask-able _ _ _ (told (past i)) (i .before .enum-told .given .1) (range i) (entry (past i) .pre) (c .if1 .taken)
+    let e = start c in
+    ask-able (e .args .p) (e .args .kept .now) (asked e) (checked c .check-asked .ensures) (c .enum-told .given .1) (e .pre)
 
-frame-of-requires : tie.Need-frame-of-requires
-frame-of-requires c κs = search needs
-
-places-requires : tie.Need-places-requires
-places-requires c κs = search needs
-
-check-bytes-requires : tie.Need-check-bytes-requires
-check-bytes-requires c κs = search needs
+check-asked-requires : tie.Need-check-asked-requires
+check-asked-requires c κs = search needs
 
 enum-told : tie.Need-enum-told
 enum-told c = search needs
@@ -56,62 +38,46 @@ refused-requires : tie.Need-refused-requires
 refused-requires c κs = search needs
 
 returns : tie.Need-returns
-returns c = c .refused .ensures ∙ lent-refused _ _ _ (told (c .before .before .before)) (c .before .enum-told2 .given .1)
+returns c =
+    let k = c .before .before .before in
+    let e = k .before .before in
+    c .refused .ensures ∙ asks-refused (e .args .p) (e .args .kept .now) (asked e) (k .check-asked .ensures) (c .before .enum-told2 .given .1)
 
-in-range-requires : tie.Need-in-range-requires
-in-range-requires c κs = search needs
+cast-t8 : tie.Need-cast-t8
+cast-t8 c = omega (arith, able c .within .writer-in, able c .good .writer .states)
 
-cast-t11 : tie.Need-cast-t11
-cast-t11 c = omega (arith, able c .within .writer-in, able c .good .writer .states)
+cast-t9 : tie.Need-cast-t9
+cast-t9 c = omega (arith, able c .within .reader-in, able c .good .reader .states)
 
-cast-t12 : tie.Need-cast-t12
-cast-t12 c = omega (arith, able c .within .reader-in, able c .good .reader .states)
+cast-t10 : tie.Need-cast-t10
+cast-t10 c = omega (arith, able c .within .level-in, able c .few)
 
-cast-t13 : tie.Need-cast-t13
-cast-t13 c = omega (arith, able c .within .level-in, able c .few)
-
-moves-at-requires : tie.Need-moves-at-requires
-moves-at-requires c κs = able c
+allowed-at-requires : tie.Need-allowed-at-requires
+allowed-at-requires c κs = able c
 
 answer-requires : tie.Need-answer-requires
 answer-requires c κs = search needs
 
 returns-2 : tie.Need-returns-2
 returns-2 c =
-    let i = c .before .before .before in
-    c .answer .ensures ∙ ap answered (c .before .moves-at .ensures)
-    ∙ ask-inside _ _ _ (told (past i)) (i .before .enum-told .given .1) (range i) (c .before .before .if1 .taken)
-
-refuse-requires : tie.Need-refuse-requires
-refuse-requires c κs = search needs
-
-refused-requires-2 : tie.Need-refused-requires-2
-refused-requires-2 c κs = search needs
-
-returns-3 : tie.Need-returns-3
-returns-3 c =
-    let i = c .before .before .before in
-    c .refused2 .ensures ∙ ap unanswered (c .before .refuse .ensures)
-    ∙ ask-outside _ _ _ (told (past i)) (i .before .enum-told .given .1) (range i) (c .before .before .if1 .left)
+    let t = c .before .before in
+    let e = start t in
+    c .answer .ensures
+    ∙ ap answered (c .before .allowed-at .ensures)
+    ∙ asks-answered (e .args .p) (e .args .kept .now) (asked e) (checked t .check-asked .ensures) (t .enum-told .given .1)
 
 pub ask-pair-spec : {M : Type 1} → statement M
 ask-pair-spec =
     tie.close
     (tie.spec
-    frame-of-requires
-    places-requires
-    check-bytes-requires
+    check-asked-requires
     enum-told
     enum-told-2
     refused-requires
     returns
-    in-range-requires
-    cast-t11
-    cast-t12
-    cast-t13
-    moves-at-requires
+    cast-t8
+    cast-t9
+    cast-t10
+    allowed-at-requires
     answer-requires
-    returns-2
-    refuse-requires
-    refused-requires-2
-    returns-3)
+    returns-2)

@@ -5,8 +5,9 @@ use mathlib.Core.Path.{_≡_, sym, ap, _∙_}
 use Rattle.format.specs.declared.Verdict.the-variants.{Fine}
 use Rattle.format.specs.Verdicts.{verdictOf}
 use Rattle.calls.specs.Step.{refusedStep}
-use Rattle.turns.specs.Cycles.{letterChecks}
-use Rattle.turns.proofs.Turning.{letters-in, turn-refused, not-allowed, allowed-on, answerable}
+use Rattle.calls.specs.Refusals.{letterChecks}
+use Rattle.calls.proofs.Silent.{letters-known}
+use Rattle.turns.proofs.Turning.{turn-refused, not-allowed, allowed-on, answerable}
 use borrow.Author.Needs.{needs}
 use Rattle.turns.proofs.turn.Statement.{statement}
 use Rattle.turns.proofs.turn.Tie as tie
@@ -23,7 +24,7 @@ past c = c .before .before .before
 
 letters : (c : tie.After-enum-told) → let a = entry c .args in
     (a .cycle .«writer_letter» < a .p .writer .letters) × (a .cycle .«reader_letter» < a .p .reader .letters)
-letters c = let a = entry c .args in letters-in (a .p) (a .cycle .«writer_letter») (a .cycle .«reader_letter») (fine c)
+letters c = let a = entry c .args in letters-known (a .p) (a .cycle .«writer_letter») (a .cycle .«reader_letter») (fine c)
 
 check-letters-requires : tie.Need-check-letters-requires
 check-letters-requires c κs = search needs
@@ -43,40 +44,43 @@ returns c =
     let a = l .before .before .args in
     c .refused .ensures ∙ turn-refused (a .p) (a .kept .now) (a .run) (a .cycle) (l .check-letters .ensures) (c .before .enum-told2 .given .1)
 
-cast-is-allowed : tie.Need-cast-is-allowed
-cast-is-allowed c = search needs
+cast-reason-at : tie.Need-cast-reason-at
+cast-reason-at c = search needs
 
-cast-t10 : tie.Need-cast-t10
-cast-t10 c = search needs
+cast-t11 : tie.Need-cast-t11
+cast-t11 c = search needs
 
-cast-is-allowed-2 : tie.Need-cast-is-allowed-2
-cast-is-allowed-2 c = search needs
+cast-reason-at-2 : tie.Need-cast-reason-at-2
+cast-reason-at-2 c = search needs
 
-cast-is-allowed-3 : tie.Need-cast-is-allowed-3
-cast-is-allowed-3 c = omega (arith, letters (past c) .0, entry (past c) .pre .good .writer .letters)
+cast-reason-at-3 : tie.Need-cast-reason-at-3
+cast-reason-at-3 c = omega (arith, letters (past c) .0, entry (past c) .pre .good .writer .letters)
 
-cast-is-allowed-4 : tie.Need-cast-is-allowed-4
-cast-is-allowed-4 c = omega (arith, letters (past c) .1, entry (past c) .pre .good .reader .letters)
+cast-reason-at-4 : tie.Need-cast-reason-at-4
+cast-reason-at-4 c = omega (arith, letters (past c) .1, entry (past c) .pre .good .reader .letters)
 
-is-allowed-requires : tie.Need-is-allowed-requires
-is-allowed-requires c κs = search needs
+reason-at-requires : tie.Need-reason-at-requires
+reason-at-requires c κs =
+    let p = past c in
+    let g = entry p .pre .good in
+    (entry p .pre, omega (arith, letters p .0, g .writer .letters), omega (arith, letters p .1, g .reader .letters))
 
 by-answers-requires : tie.Need-by-answers-requires
 by-answers-requires c κs =
     let p = past (c .before .before) in
     let s = entry p in
     let a = s .args in
-    answerable (a .p) (a .kept .now) (a .run) (a .cycle) (fine p) (c .before .is-allowed .ensures) (s .pre) (c .if1 .taken)
+    answerable (a .p) (a .kept .now) (a .run) (a .cycle) (fine p) (c .before .reason-at .ensures) (s .pre) (c .if1 .taken)
 
 returns-2 : tie.Need-returns-2
 returns-2 c =
     let t = c .before .before in
     let a = entry (past (t .before)) .args in
     c .by-answers .ensures
-    ∙ allowed-on (a .p) (a .kept .now) (a .run) (a .cycle) (fine (past (t .before))) (t .is-allowed .ensures) (c .before .if1 .taken)
+    ∙ allowed-on (a .p) (a .kept .now) (a .run) (a .cycle) (fine (past (t .before))) (t .reason-at .ensures) (c .before .if1 .taken)
 
-refuse-requires : tie.Need-refuse-requires
-refuse-requires c κs = search needs
+not-allowed-requires : tie.Need-not-allowed-requires
+not-allowed-requires c κs = search needs
 
 refused-requires-2 : tie.Need-refused-requires-2
 refused-requires-2 c κs = search needs
@@ -85,8 +89,8 @@ returns-3 : tie.Need-returns-3
 returns-3 c =
     let t = c .before .before .before in
     let a = entry (past (t .before)) .args in
-    c .refused2 .ensures ∙ ap (refusedStep (a .run)) (c .before .refuse .ensures)
-    ∙ not-allowed (a .p) (a .kept .now) (a .run) (a .cycle) (fine (past (t .before))) (t .is-allowed .ensures) (c .before .before .if1 .left)
+    c .refused2 .ensures ∙ ap (refusedStep (a .run)) (c .before .not-allowed .ensures)
+    ∙ not-allowed (a .p) (a .kept .now) (a .run) (a .cycle) (fine (past (t .before))) (t .reason-at .ensures) (c .before .before .if1 .left)
 
 pub turn-spec : {M : Type 1} → statement M
 turn-spec =
@@ -97,14 +101,14 @@ turn-spec =
     enum-told-2
     refused-requires
     returns
-    cast-is-allowed
-    cast-t10
-    cast-is-allowed-2
-    cast-is-allowed-3
-    cast-is-allowed-4
-    is-allowed-requires
+    cast-reason-at
+    cast-t11
+    cast-reason-at-2
+    cast-reason-at-3
+    cast-reason-at-4
+    reason-at-requires
     by-answers-requires
     returns-2
-    refuse-requires
+    not-allowed-requires
     refused-requires-2
     returns-3)

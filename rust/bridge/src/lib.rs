@@ -3,11 +3,12 @@
 //! Two protocol tables in bytes, the bound of the buffer between them and the
 //! [`Rule`] of that buffer go in; out come the configurations in which a
 //! bridge can stay for ever without losing an item and can always still
-//! finish ([`build`]), and the moves that are allowed at each ([`ask`]). Every
-//! call takes anything: what is not a table is refused, with a reason.
+//! finish ([`build`]), the moves that are allowed at each ([`ask`]), and why
+//! another move is not ([`why`]). Every call takes anything: what is not a
+//! table is refused, with a [`Refusal`] that says what is wrong.
 //!
 //! ```
-//! use bridge::{ask, build, Configuration, Rule};
+//! use bridge::{ask, build, why, Configuration, Reason, Rule};
 //!
 //! // Two states a side: letter 0 waits, letter 1 moves an item to the end.
 //! let mut writer = [0; 24];
@@ -25,6 +26,10 @@
 //! let moves = ask(&writer, &reader, 1, Rule::Registered, &kept, start)?;
 //! assert_eq!(moves.iter().collect::<Vec<_>>(), [(0, 0), (1, 0)]);
 //!
+//! // The move 1.1 would take an item that is not held yet.
+//! let reason = why(&writer, &reader, 1, Rule::Registered, &kept, start, (1, 1))?;
+//! assert_eq!(reason, Reason::Underflows);
+//!
 //! // Under the other rule the item may go from side to side in one cycle.
 //! let moves = ask(&writer, &reader, 1, Rule::FlowThrough, &kept, start)?;
 //! assert_eq!(moves.iter().collect::<Vec<_>>(), [(0, 0), (1, 0), (1, 1)]);
@@ -36,10 +41,12 @@
 
 mod moves;
 pub mod packed;
+mod reason;
 mod refusal;
 mod rule;
 
 pub use moves::{Iter, Moves};
+pub use reason::Reason;
 pub use refusal::{Refusal, Side};
 pub use rule::Rule;
 
@@ -139,6 +146,52 @@ pub fn ask(
     // A refusal's set is empty, and so may an answer's be: ask which it is.
     match Refusal::of(packed::ask(writer, reader, bound, rule, kept, at)) {
         None => Ok(Moves::default()),
+        Some(refusal) => Err(refusal),
+    }
+}
+
+/// Why a move is allowed at a configuration or not, with respect to the set
+/// that the first N bytes of `kept` keep, as in [`ask`]. The move is a writer
+/// letter x and a reader letter y; the reason is the lowest that applies, over
+/// all its outcomes. The moves that are [`Reason::Allowed`] are those of
+/// [`ask`].
+///
+/// A letter that the side's table does not have is refused (14). One that it
+/// has, without a row for it in this state, is a reason.
+///
+/// ```
+/// use bridge::{why, Configuration, Reason, Rule};
+///
+/// // One state a side; letter 0 holds, letter 1 moves an item, 2 has no rows.
+/// let writer = [1, 0, 16, 1, 1, 0, 0, 3, 2, 0, 0, 0, 0, 0, 0, 1, 1, 1, 0];
+/// let mut reader = writer;
+/// reader[3] = 2;
+/// let kept = [1, 1];
+/// let at_level = |level, xy| {
+///     let at = Configuration { writer: 0, reader: 0, level };
+///     why(&writer, &reader, 1, Rule::Registered, &kept, at, xy)
+/// };
+/// assert_eq!(at_level(0, (1, 0)), Ok(Reason::Allowed));
+/// assert_eq!(at_level(1, (1, 0)), Ok(Reason::Overflows));
+/// assert_eq!(at_level(0, (1, 1)), Ok(Reason::Underflows));
+/// assert_eq!(at_level(0, (0, 2)), Ok(Reason::NoReaderRow));
+/// assert_eq!(
+///     at_level(0, (0, 3)).unwrap_err().to_string(),
+///     "the reader's table has no such letter (refusal 14, side 2, row 0)"
+/// );
+/// ```
+pub fn why(
+    writer: &[u8],
+    reader: &[u8],
+    bound: u64,
+    rule: Rule,
+    kept: &[u8],
+    at: Configuration,
+    xy: (u64, u64),
+) -> Result<Reason, Refusal> {
+    let number = packed::why(writer, reader, bound, rule.number(), kept, at, xy);
+    match Refusal::of(number) {
+        None => Ok(Reason::of(packed::fourth(number)).expect("a reason is proved to be 0 to 6")),
         Some(refusal) => Err(refusal),
     }
 }

@@ -4,7 +4,8 @@
 //! after the bound; a larger one is refused with 17.
 //!
 //! The number returned is number + 2^8 × side + 2^16 × row + 2^32 × kept +
-//! 2^48 × rounds, with ask's count and lowest in the last two places.
+//! 2^48 × rounds, with ask's count and lowest in the last two places, or why's
+//! reason and 0.
 
 use crate::Configuration;
 
@@ -47,6 +48,22 @@ mod entry {
             writer_state: u64,
             reader_state: u64,
             level: u64,
+        ) -> u64;
+
+        pub fn bridge_why(
+            writer: *const u8,
+            writer_len: usize,
+            reader: *const u8,
+            reader_len: usize,
+            bound: u64,
+            rule: u64,
+            kept: *const u8,
+            kept_len: usize,
+            writer_state: u64,
+            reader_state: u64,
+            level: u64,
+            writer_letter: u64,
+            reader_letter: u64,
         ) -> u64;
     }
 }
@@ -124,6 +141,36 @@ pub fn ask_set(
     }
 }
 
+/// Why's packed number, of the move x.y.
+pub fn why(
+    writer: &[u8],
+    reader: &[u8],
+    bound: u64,
+    rule: u64,
+    kept: &[u8],
+    at: Configuration,
+    (x, y): (u64, u64),
+) -> u64 {
+    // SAFETY: as in `build`; nothing is written.
+    unsafe {
+        entry::bridge_why(
+            writer.as_ptr(),
+            writer.len(),
+            reader.as_ptr(),
+            reader.len(),
+            bound,
+            rule,
+            kept.as_ptr(),
+            kept.len(),
+            at.writer,
+            at.reader,
+            at.level,
+            x,
+            y,
+        )
+    }
+}
+
 /// The number of the refusal, 0 for done.
 pub fn number(packed: u64) -> u8 {
     packed as u8
@@ -139,12 +186,12 @@ pub fn row(packed: u64) -> u16 {
     (packed >> 16) as u16
 }
 
-/// The fourth place: build's kept count, or ask's count.
+/// The fourth place: build's kept count, ask's count, or why's reason.
 pub fn fourth(packed: u64) -> u64 {
     (packed >> 32) & 0xffff
 }
 
-/// The fifth place: build's rounds, or ask's lowest.
+/// The fifth place: build's rounds, ask's lowest, or 0 for why.
 pub fn fifth(packed: u64) -> u64 {
     packed >> 48
 }

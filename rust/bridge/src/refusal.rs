@@ -1,6 +1,6 @@
 //! Refusals, in words and in numbers.
 
-use crate::packed;
+use crate::{packed, Reason};
 use std::fmt;
 
 /// One of the two sides.
@@ -31,15 +31,16 @@ pub struct Refusal {
     pub number: u8,
     /// The side whose table it is about, if it is about one.
     pub side: Option<Side>,
-    /// The row that it is about, counted from 0; 0 if it is about none.
+    /// The row that it is about, counted from 0; 0 if it is about none. If a
+    /// step's move is not allowed (15), the number of its [`Reason`].
     pub row: u16,
     /// The rounds made, if there is no bridge (11); else 0.
     pub rounds: u64,
 }
 
 impl Refusal {
-    /// The refusal in a packed number, if it is one: what [`packed::build`]
-    /// or [`packed::ask`] returned.
+    /// The refusal in a packed number, if it is one: what [`packed::build`],
+    /// [`packed::ask`] or [`packed::why`] returned.
     ///
     /// ```
     /// use bridge::{packed, Refusal};
@@ -59,7 +60,7 @@ impl Refusal {
             2 => Some(Side::Reader),
             _ => None,
         };
-        // 11 is build's alone; in ask's number the place has another meaning.
+        // 11 is build's alone; in other numbers the place has another meaning.
         let rounds = match packed::number(number) {
             0 => return None,
             11 => packed::fifth(number),
@@ -92,7 +93,7 @@ impl Refusal {
     }
 
     /// What was wrong, after whose table it is.
-    fn reason(&self) -> &'static str {
+    fn fault(&self) -> &'static str {
         match self.number {
             1 => "table has fewer than 9 bytes",
             2 => "table is not of version 1",
@@ -102,7 +103,17 @@ impl Refusal {
             6 => "table's start or finish is none of its states",
             7 => "table has a row with a field out of range",
             8 => "table has a row that does not rise above the one before",
+            14 => "table has no such letter",
+            16 => "table has no row for that state, letter and answer",
             _ => "call was refused",
+        }
+    }
+
+    /// Why a step's move is not allowed.
+    fn not_allowed(&self) -> String {
+        match Reason::of(u64::from(self.row)) {
+            None | Some(Reason::Allowed) => String::from("the move is not allowed"),
+            Some(reason) => format!("the move is not allowed: {reason}"),
         }
     }
 }
@@ -115,8 +126,9 @@ impl fmt::Display for Refusal {
             11 => write!(f, "there is no bridge: the start is not in the largest set")?,
             12 => write!(f, "one of the kept bytes is neither 0 nor 1")?,
             13 => write!(f, "there is no such configuration")?,
+            15 => write!(f, "{}", self.not_allowed())?,
             17 => write!(f, "the rule is above 1")?,
-            _ => write!(f, "{} {}", self.whose(), self.reason())?,
+            _ => write!(f, "{} {}", self.whose(), self.fault())?,
         }
         let (number, side, row) = (self.number, self.side_number(), self.row);
         write!(f, " (refusal {number}, side {side}, row {row})")

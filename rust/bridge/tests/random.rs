@@ -5,8 +5,8 @@ mod compare;
 use compare::{seeded, Compared};
 use inputs::*;
 
-/// Build and ask at every configuration; at times over bytes that nobody
-/// built, of another length too.
+/// Build, and ask at every configuration; ask and why over bytes that nobody
+/// built, at times of another length.
 #[test]
 fn small_pairs() {
     let mut compared = Compared::new();
@@ -22,22 +22,31 @@ fn small_pairs() {
                 let at = configuration(&mut random, &pair);
                 compared.ask(&pair, &kept, at);
             }
+            let at = configuration(&mut random, &pair);
+            let xy = letters(&mut random, &pair);
+            compared.why(&pair, &kept, at, xy);
         }
     }
     compared.print("small random pairs");
     for rule in RULES {
-        assert!(compared.builds(rule) >= 30_000);
+        assert!(compared.calls("build", rule) >= 30_000);
         assert!(compared.met_under(rule, "build", 0, 0) >= 9_000);
         assert!(compared.met_under(rule, "build", 11, 0) >= 5_000);
-        for number in [0, 10, 12, 13] {
-            let met = compared.met_under(rule, "ask", number, 0);
-            assert!(met >= 1_000, "ask {number} under rule {rule}");
+        for call in ["ask", "why"] {
+            for number in [0, 10, 12, 13] {
+                let met = compared.met_under(rule, call, number, 0);
+                assert!(met >= 1_000, "{call} {number} under rule {rule}");
+            }
+        }
+        for side in 1..=2 {
+            assert!(compared.met_under(rule, "why", 14, side) >= 1_000);
         }
     }
 }
 
 /// 16 by 16 states, 64 rows a side, bound 15: ask at random configurations,
-/// over what was built and over bytes that nobody built.
+/// over what was built and over bytes that nobody built; at two of them why for
+/// every move too.
 #[test]
 fn large_pairs() {
     let mut compared = Compared::new();
@@ -48,10 +57,15 @@ fn large_pairs() {
                 let pair = large_pair(&mut random, letters, rule);
                 let (_, built) = compared.build(&pair, &patterned(4_100));
                 let other = kept_bytes(&mut random, pair.count());
-                for _ in 0..100 {
+                for i in 0..100 {
                     let at = configuration(&mut random, &pair);
-                    compared.ask(&pair, &built, at);
-                    compared.ask(&pair, &other, at);
+                    for kept in [&built, &other] {
+                        if i < 2 {
+                            compared.every_move(&pair, kept, at);
+                        } else {
+                            compared.ask(&pair, kept, at);
+                        }
+                    }
                 }
             }
         }

@@ -10,19 +10,22 @@ use inputs::*;
 fn damaged_pairs() {
     let mut random = seeded(20261109);
     let mut compared = Compared::new();
+    let moves = Vec::from_iter(limit_moves());
     for _ in 0..40_000 {
         let pair = damaged_pair(&mut random);
         let room = random.pick(&[0, 3, 16, 80, 4_096]);
         let (_, left) = compared.build(&pair, &patterned(room));
-        compared.ask(&pair, &left, (0, 0, 0));
-        compared.ask(&pair, &patterned(room), (0, 0, 0));
-        compared.ask(&pair, &vec![1; room], (random.below(5), 0, 0));
+        let ones = (vec![1; room], random.below(5));
+        for (kept, state) in [(left, 0), (patterned(room), 0), ones] {
+            compared.ask(&pair, &kept, (state, 0, 0));
+            compared.why(&pair, &kept, (state, 0, 0), random.pick(&moves));
+        }
     }
     compared.print("damaged pairs");
     for rule in RULES {
-        assert!(compared.builds(rule) >= 15_000);
+        assert!(compared.calls("build", rule) >= 15_000);
     }
-    for call in ["build", "ask"] {
+    for call in ["build", "ask", "why"] {
         for number in 1..=8 {
             for side in 1..=2 {
                 assert!(
@@ -36,7 +39,10 @@ fn damaged_pairs() {
         }
     }
     assert!(compared.met("build", 11, 0) >= 20);
-    assert!(compared.met("ask", 12, 0) >= 20 && compared.met("ask", 13, 0) >= 20);
+    for call in ["ask", "why"] {
+        assert!(compared.met(call, 12, 0) >= 20 && compared.met(call, 13, 0) >= 20);
+    }
+    assert!(compared.met("why", 14, 1) >= 20 && compared.met("why", 14, 2) >= 20);
 }
 
 /// Every prefix of a good table and every change of a single byte, as the
@@ -83,42 +89,50 @@ fn numbers_that_are_no_rule() {
             let mut pair = small_pair(&mut random, rule);
             let room = random.pick(&[0, pair.count() - 1, pair.count(), 4_096]);
             let at = configuration(&mut random, &pair);
+            let xy = letters(&mut random, &pair);
             if random.chance(20) {
                 pair.bound = random.pick(&[16, 257, u64::MAX]);
             }
             let (_, left) = compared.build(&pair, &patterned(room));
             assert_eq!(left, patterned(room));
-            compared.ask(&pair, &left, at);
-            compared.ask(&pair, &vec![1; room], at);
+            for kept in [left, vec![1; room]] {
+                compared.ask(&pair, &kept, at);
+                compared.why(&pair, &kept, at, xy);
+            }
         }
     }
     compared.print("numbers that are no rule");
     for rule in NO_RULES {
-        for number in [9, 17] {
-            assert!(compared.met_under(rule, "build", number, 0) >= 20);
-            assert!(compared.met_under(rule, "ask", number, 0) >= 20);
+        for (call, total) in [("build", 200), ("ask", 400), ("why", 400)] {
+            let met = [9, 17].map(|number| compared.met_under(rule, call, number, 0));
+            assert!(met[0] >= 20 && met[1] >= 20);
+            assert_eq!(met[0] + met[1], total);
         }
-        let met = [9, 17].map(|number| compared.met_under(rule, "build", number, 0));
-        assert_eq!(met.iter().sum::<u64>(), 200);
     }
 }
 
-/// 0 to 255 rows, bounds and rules to the largest, buffers of no, N - 1, N and
-/// N + 7 bytes; what stands in the buffer is compared whole.
+/// 0 to 255 rows, bounds, rules and letters to the largest, buffers of no,
+/// N - 1, N and N + 7 bytes; what stands in the buffer is compared whole.
 #[test]
 fn limit_calls() {
     let mut compared = Compared::new();
     for call in limits() {
         let (_, left) = compared.build(&call.pair, &call.buffer);
         compared.ask(&call.pair, &left, (0, 0, 0));
+        for xy in limit_moves() {
+            compared.why(&call.pair, &left, (0, 0, 0), xy);
+        }
     }
     compared.print("limits");
-    for (number, side) in [(0, 0), (5, 1), (5, 2), (9, 0), (17, 0), (10, 0)] {
-        assert!(
-            compared.met("build", number, side) > 0,
-            "build {number} side {side}"
-        );
+    for call in ["build", "ask", "why"] {
+        for (number, side) in [(0, 0), (5, 1), (5, 2), (9, 0), (17, 0), (10, 0)] {
+            assert!(
+                compared.met(call, number, side) > 0,
+                "{call} {number} side {side}"
+            );
+        }
     }
+    assert!(compared.met("why", 14, 1) > 0 && compared.met("why", 14, 2) > 0);
 }
 
 /// Tables that are longer than a length field can say.

@@ -4,7 +4,7 @@
 mod compare;
 
 use bridge::Rule::{FlowThrough, Registered};
-use bridge::{ask, build, Built, Configuration, Moves, Refusal, Rule};
+use bridge::{ask, build, why, Built, Configuration, Moves, Reason, Refusal, Rule};
 use compare::Compared;
 use inputs::Pair;
 use second::worked::*;
@@ -84,7 +84,7 @@ fn cases() {
         let ones: Vec<usize> = (0..n).filter(|p| bytes[*p] == 1).collect();
         assert_eq!(ones, places);
         assert_eq!(bytes[n..], [0xEE; 3]);
-        compared.ask_everywhere(&pair, &bytes);
+        compared.every_move_everywhere(&pair, &bytes);
 
         let mut buffer = vec![9; n];
         let built = build(writer, reader, bound, rule, &mut buffer);
@@ -94,13 +94,16 @@ fn cases() {
     compared.print("worked cases");
 }
 
-#[test]
-fn sets() {
-    let at = |writer, reader, level| Configuration {
+fn at(writer: u64, reader: u64, level: u64) -> Configuration {
+    Configuration {
         writer,
         reader,
         level,
-    };
+    }
+}
+
+#[test]
+fn sets() {
     let mut kept = [0; 9];
     build(&A_WRITER, &A_READER, 1, Registered, &mut kept).unwrap();
     for (at, registered, flow_through) in [
@@ -127,4 +130,95 @@ fn sets() {
         outside.to_string(),
         "there is no such configuration (refusal 13, side 0, row 0)"
     );
+}
+
+/// Pair A at bound 1 over what is kept there, which is the same under both
+/// rules.
+fn why_a(rule: Rule, at: Configuration, xy: (u64, u64)) -> Result<Reason, Refusal> {
+    let kept = [1, 0, 0, 0, 0, 1, 1, 0];
+    why(&A_WRITER, &A_READER, 1, rule, &kept, at, xy)
+}
+
+#[test]
+fn reasons() {
+    let start = at(0, 0, 0);
+    for rule in [Registered, FlowThrough] {
+        assert_eq!(why_a(rule, start, (1, 0)), Ok(Reason::Allowed));
+        assert_eq!(why_a(rule, start, (0, 1)), Ok(Reason::Underflows));
+        assert_eq!(why_a(rule, at(0, 0, 1), (1, 1)), Ok(Reason::NotKept));
+        assert_eq!(why_a(rule, at(1, 0, 1), (1, 1)), Ok(Reason::NoWriterRow));
+        assert_eq!(why_a(rule, at(1, 1, 0), (0, 1)), Ok(Reason::NoReaderRow));
+    }
+    assert_eq!(why_a(Registered, start, (1, 1)), Ok(Reason::Underflows));
+    assert_eq!(why_a(FlowThrough, start, (1, 1)), Ok(Reason::Allowed));
+
+    // Pair C at bound 2, less the burst at a full buffer: begun at level 1 it
+    // lands there, and at level 2 its first item has no room.
+    let why_c = |rule, level, xy| {
+        let kept = [1, 1, 1, 1, 1, 1, 1, 1, 0];
+        why(&C_WRITER, &C_READER, 2, rule, &kept, at(0, 0, level), xy)
+    };
+    for rule in [Registered, FlowThrough] {
+        assert_eq!(why_c(rule, 1, (1, 0)), Ok(Reason::LandsOutside));
+        assert_eq!(why_c(rule, 2, (1, 0)), Ok(Reason::Overflows));
+    }
+    assert_eq!(why_c(Registered, 2, (1, 1)), Ok(Reason::Overflows));
+    assert_eq!(why_c(FlowThrough, 2, (1, 1)), Ok(Reason::LandsOutside));
+}
+
+/// 256 is not taken for 0, and the writer's letter comes first.
+#[test]
+fn letters_that_are_none() {
+    for (xy, side) in [
+        ((256, 0), "writer"),
+        ((2, 2), "writer"),
+        ((0, 256), "reader"),
+        ((0, u64::MAX), "reader"),
+    ] {
+        let refusal = why_a(FlowThrough, at(0, 0, 0), xy).unwrap_err();
+        let number = refusal.side_number();
+        assert_eq!(
+            refusal.to_string(),
+            format!("the {side}'s table has no such letter (refusal 14, side {number}, row 0)")
+        );
+    }
+}
+
+/// The reasons in words, and in the refusal of a step.
+#[test]
+fn reasons_in_words() {
+    for (number, words) in [
+        (1, "the configuration is not kept"),
+        (2, "the writer has no row for its state and letter"),
+        (3, "the reader has no row for its state and letter"),
+        (4, "some outcome overflows the buffer"),
+        (5, "some outcome underflows the buffer"),
+        (6, "some outcome lands outside the kept set"),
+    ] {
+        let reason = Reason::of(number).unwrap();
+        assert_eq!(
+            (reason.number(), reason.to_string()),
+            (number, words.into())
+        );
+        assert_eq!(
+            refused_step(number),
+            format!("the move is not allowed: {words} (refusal 15, side 0, row {number})")
+        );
+    }
+    assert_eq!(Reason::of(0), Some(Reason::Allowed));
+    assert_eq!(Reason::Allowed.to_string(), "the move is allowed");
+    for number in [7, 256, 1 << 32, u64::MAX] {
+        assert_eq!(Reason::of(number), None);
+    }
+    for row in [0, 7, 255, 65_535] {
+        assert_eq!(
+            refused_step(row),
+            format!("the move is not allowed (refusal 15, side 0, row {row})")
+        );
+    }
+}
+
+/// The words of a step's refusal with this row.
+fn refused_step(row: u64) -> String {
+    Refusal::of(15 + (row << 16)).unwrap().to_string()
 }

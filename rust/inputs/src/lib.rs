@@ -17,12 +17,12 @@ pub mod random;
 pub mod tables;
 
 pub use damage::{damaged_pair, damaged_table, prefixes, single_changes};
-pub use limits::{buffers, limits, patterned, Call};
+pub use limits::{buffers, limit_moves, limits, patterned, Call};
 pub use listings::listing_input;
 pub use many_rounds::{many_rounds, ManyRounds, MANY_ROUNDS};
-pub use pairs::{chains, clocks, large_pair, long_way, small_pair, Pair};
+pub use pairs::{chains, clocks, large_pair, long_way, many_moves_pair, small_pair, Pair};
 pub use pairs::{FLOW_THROUGH, NO_RULES, REGISTERED, RULES};
-pub use questions::{configuration, cycle, kept_bytes, run, Cycle, Run};
+pub use questions::{configuration, cycle, kept_bytes, kept_set, letters, run, Cycle, Run};
 pub use random::Random;
 pub use tables::Parts;
 

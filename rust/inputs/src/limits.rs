@@ -1,4 +1,4 @@
-//! Calls at the limits: counts of rows, bounds, rules and buffers.
+//! Calls at the limits: counts of rows, bounds, rules, buffers and letters.
 
 use crate::pairs::Pair;
 use crate::tables::Parts;
@@ -56,6 +56,18 @@ pub fn limits() -> Vec<Call> {
         }
     }
     calls
+}
+
+/// The letters at the limit: 7 is the last that a table can have. The low
+/// bytes of two of the others are letters.
+pub const LIMIT_LETTERS: [u64; 8] = [0, 1, 7, 8, 255, 256, 1 << 32, u64::MAX];
+
+/// Moves with each letter at the limit on one side, with 0 on the other, and
+/// on both.
+pub fn limit_moves() -> impl Iterator<Item = (u64, u64)> {
+    LIMIT_LETTERS
+        .into_iter()
+        .flat_map(|letter| [(letter, 0), (0, letter), (letter, letter)])
 }
 
 /// Each bound at the limit with each rule at the limit.

@@ -255,6 +255,39 @@ fn add_row(side: &mut Parts, row: [u8; 5]) {
     }
 }
 
+/// A random good pair with few configurations and many moves: states 1 to 3,
+/// letters 5 to 8, bounds 0 to 2. Over its kept bytes, built or random, each
+/// reason of a move is met often. The tables do not depend on the rule.
+pub fn many_moves_pair(random: &mut Random, rule: u64) -> Pair {
+    let bound = random.pick(&[0, 0, 1, 1, 1, 2]);
+    let writer = many_letters_side(random, 1);
+    let reader = many_letters_side(random, 2);
+    Pair::of(&writer, &reader, bound, rule)
+}
+
+/// Letter 0 holds; most other letters of a state have rows, often with
+/// several answers, of which many stay in the state.
+fn many_letters_side(random: &mut Random, role: u8) -> Parts {
+    let mut side = empty_side(random, role);
+    side.states = random.pick(&[1, 1, 1, 2, 2, 2, 2, 3]);
+    side.start = 0;
+    side.finish = side.states - 1;
+    side.letters = random.byte_from_to(5, 8);
+    for state in 0..side.states {
+        side.rows.push([state, 0, 0, 0, state]);
+        for letter in 1..side.letters {
+            let answers = random.pick(&[0, 1, 1, 1, 2, 2]);
+            for answer in 0..answers {
+                let item = u8::from(random.chance(40));
+                let any = random.byte_below(side.states);
+                let next = random.pick(&[state, any]);
+                side.rows.push([state, letter, answer, item, next]);
+            }
+        }
+    }
+    side
+}
+
 /// A random pair of full size: 16 states a side, 64 rows a side, bound 15,
 /// with this many letters (1 to 8). The tables do not depend on the rule.
 pub fn large_pair(random: &mut Random, letters: u8, rule: u64) -> Pair {

@@ -1,5 +1,5 @@
-//! What ask and step take beside a pair: kept bytes, configurations, runs and
-//! cycles, in range and out of it.
+//! What ask, why and step take beside a pair: kept bytes, configurations,
+//! letters, runs and cycles, in range and out of it.
 
 use crate::pairs::Pair;
 use crate::random::Random;
@@ -32,12 +32,17 @@ pub struct Cycle {
     pub incoming: u32,
 }
 
-/// Kept bytes that nobody built: about `n` bytes of 0 and 1, at times all 1
-/// or dense, at times too short, too long with noise past N, or with another
-/// byte.
-pub fn kept_bytes(random: &mut Random, n: usize) -> Vec<u8> {
+/// Kept bytes that nobody built: `n` bytes of 0 and 1, at times all 1 or
+/// dense.
+pub fn kept_set(random: &mut Random, n: usize) -> Vec<u8> {
     let ones = random.pick(&[100, 100, 90, 70, 50]);
-    let mut kept: Vec<u8> = (0..n).map(|_| u8::from(random.chance(ones))).collect();
+    (0..n).map(|_| u8::from(random.chance(ones))).collect()
+}
+
+/// The same, but at times too short, too long with noise past N, or with
+/// another byte.
+pub fn kept_bytes(random: &mut Random, n: usize) -> Vec<u8> {
+    let mut kept = kept_set(random, n);
     match random.below(20) {
         0 => {
             let length = random.below(n as u64) as usize;
@@ -59,6 +64,14 @@ pub fn configuration(random: &mut Random, pair: &Pair) -> (u64, u64, u64) {
         mostly_below(random, u64::from(pair.writer[4])),
         mostly_below(random, u64::from(pair.reader[4])),
         mostly_below(random, pair.bound.min(15) + 1),
+    )
+}
+
+/// The letters of a move of a good pair: mostly in range.
+pub fn letters(random: &mut Random, pair: &Pair) -> (u64, u64) {
+    (
+        mostly_below(random, u64::from(pair.writer[7])),
+        mostly_below(random, u64::from(pair.reader[7])),
     )
 }
 

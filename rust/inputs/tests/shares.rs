@@ -2,7 +2,7 @@
 //! the shares.
 
 use inputs::*;
-use second::{ask, build, listing, read, Built, Configuration, Side};
+use second::{ask, build, listing, read, Built, Configuration, Kept, Reason, Side};
 use std::collections::BTreeMap;
 
 /// Build into a buffer that is large enough for any pair.
@@ -331,15 +331,53 @@ fn listing_inputs() {
     assert!(shares["converter"] >= 1000);
 }
 
+/// Moves that meet each reason often, over what is built and over bytes that
+/// nobody built.
+#[test]
+fn many_moves_pairs() {
+    for rule in RULES {
+        let mut random = Random::new(15 + rule);
+        println!("seed {}", random.seed());
+        let (mut numbers, mut reasons) = (BTreeMap::new(), BTreeMap::new());
+        for _ in 0..1_000 {
+            let pair = many_moves_pair(&mut random, rule);
+            let mut kept = kept_set(&mut random, pair.count());
+            if random.chance(50) {
+                let result = build(&pair.writer, &pair.reader, pair.bound, rule, &mut kept);
+                *numbers.entry(result.number).or_default() += 1;
+            }
+            let kept = Kept::read(&pair.writer, &pair.reader, pair.bound, rule, &kept).unwrap();
+            for reason in all_reasons(&kept) {
+                *reasons.entry(reason).or_default() += 1;
+            }
+        }
+        print_shares("pairs with many moves, number", &numbers);
+        print_shares("pairs with many moves, reason", &reasons);
+        assert!(numbers[&0] >= 200 && numbers[&11] >= 50);
+        assert!(reasons.len() == 7 && reasons.values().all(|count| *count >= 3_000));
+    }
+}
+
+/// The reasons of all moves at all configurations.
+fn all_reasons(kept: &Kept) -> Vec<Reason> {
+    let mut reasons = Vec::new();
+    for at in kept.pair.configurations() {
+        for bit in 0..64 {
+            reasons.extend(kept.why(at, (bit / 8, bit % 8)));
+        }
+    }
+    reasons
+}
+
 /// Kept bytes, configurations, runs and cycles meet each refusal of ask and
-/// step.
+/// step, and each reason of a step's.
 #[test]
 fn questions_and_steps() {
     let mut random = Random::new(13);
     println!("seed {}", random.seed());
     let mut asked_shares: BTreeMap<u64, u64> = BTreeMap::new();
     let mut moves: BTreeMap<u64, u64> = BTreeMap::new();
-    let mut step_shares: BTreeMap<(u64, u64), u64> = BTreeMap::new();
+    let mut step_shares: BTreeMap<(u64, u64, u64), u64> = BTreeMap::new();
     for _ in 0..50_000 {
         let rule = random.pick(&RULES);
         let mut pair = small_pair(&mut random, rule);
@@ -374,28 +412,28 @@ fn questions_and_steps() {
             &second_run(&run),
             &second_cycle(&cycle),
         );
-        let key = (stepped.number, stepped.side);
+        let key = (stepped.number, stepped.side, stepped.row);
         *step_shares.entry(key).or_default() += 1;
     }
     print_shares("ask, number", &asked_shares);
     print_shares("ask, count of moves", &moves);
-    print_shares("step, number and side", &step_shares);
+    print_shares("step, number, side and row", &step_shares);
     for number in [0, 10, 12, 13, 17] {
         assert!(asked_shares[&number] >= 100, "ask {number}");
     }
     let all = [
-        (0, 0),
-        (17, 0),
-        (10, 0),
-        (12, 0),
-        (13, 0),
-        (14, 1),
-        (14, 2),
-        (15, 0),
-        (16, 1),
-        (16, 2),
+        (0, 0, 0),
+        (17, 0, 0),
+        (10, 0, 0),
+        (12, 0, 0),
+        (13, 0, 0),
+        (14, 1, 0),
+        (14, 2, 0),
+        (16, 1, 0),
+        (16, 2, 0),
     ];
-    for key in all {
+    let reasons = (1..=6).map(|reason| (15, 0, reason));
+    for key in all.into_iter().chain(reasons) {
         assert!(step_shares[&key] >= 100, "step {key:?}");
     }
 }

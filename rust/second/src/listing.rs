@@ -1,8 +1,7 @@
 //! The listing, as text.
 
 use crate::builder::build;
-use crate::pair::Pair;
-use crate::question::allowed_moves;
+use crate::kept::Kept;
 use crate::table::length_field;
 use crate::worked::{A_READER, A_WRITER, C_READER, C_WRITER};
 
@@ -50,8 +49,8 @@ fn table_bytes(left: &[u8]) -> usize {
 pub fn pair_listing(writer: &[u8], reader: &[u8], bound: u64, rule: u64) -> String {
     let mut buffer = [0; 4096];
     let built = build(writer, reader, bound, rule, &mut buffer);
-    let pair = match Pair::read(writer, reader, bound, rule) {
-        Ok(pair) if built.number == 0 => pair,
+    let kept = match Kept::read(writer, reader, bound, rule, &buffer) {
+        Ok(kept) if built.number == 0 => kept,
         // "A refusal prints `refused 11 side 0 row 0` with its numbers."
         _ => {
             return format!(
@@ -65,26 +64,26 @@ pub fn pair_listing(writer: &[u8], reader: &[u8], bound: u64, rule: u64) -> Stri
     let mut text = format!(
         "converter kept={} of={} rounds={} bound={} rule={}\n",
         built.kept,
-        pair.count(),
+        kept.pair.count(),
         built.rounds,
-        pair.bound,
-        pair.rule.number()
+        kept.pair.bound,
+        kept.pair.rule.number()
     );
-    text += &kept_lines(&pair, &buffer);
+    text += &kept_lines(&kept);
     text
 }
 
 /// "Then a line for each kept configuration in order of place: writer state,
 /// reader state, level, allowed moves x.y in order of bit."
-fn kept_lines(pair: &Pair, kept: &[u8]) -> String {
-    let mut all = pair.configurations();
-    all.sort_by_key(|at| pair.place(*at));
+fn kept_lines(kept: &Kept) -> String {
+    let mut all = kept.pair.configurations();
+    all.sort_by_key(|at| kept.pair.place(*at));
     let mut text = String::new();
     for at in all {
-        if kept[pair.place(at)] == 1 {
+        if kept.has(at) {
             text += &format!("{} {} {} moves", at.writer, at.reader, at.level);
             // "With no moves the line ends after `moves`."
-            for (x, y) in allowed_moves(pair, kept, at) {
+            for (x, y) in kept.allowed_moves(at) {
                 text += &format!(" {x}.{y}");
             }
             text.push('\n');

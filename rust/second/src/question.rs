@@ -1,6 +1,7 @@
 //! Ask: "which moves are allowed here".
 
-use crate::pair::{Configuration, Pair};
+use crate::kept::Kept;
+use crate::pair::Configuration;
 use crate::table::Refusal;
 
 /// What ask returns: "number, side and row too", and "the allowed moves at a
@@ -64,38 +65,12 @@ pub fn ask(
     kept: &[u8],
     at: Configuration,
 ) -> Asked {
-    match checked(writer, reader, bound, rule, kept) {
+    let moves = Kept::read(writer, reader, bound, rule, kept).and_then(|kept| {
+        kept.pair.check_range(at)?;
+        Ok(kept.allowed_moves(at))
+    });
+    match moves {
         Err(refusal) => Asked::refused(refusal),
-        // 13: "configuration out of range (ask, step)"
-        Ok(pair) if !pair.in_range(at) => Asked::refused(Refusal::of_call(13)),
-        Ok(pair) => Asked::done(&allowed_moves(&pair, kept, at)),
+        Ok(moves) => Asked::done(&moves),
     }
-}
-
-/// Refusals 1 to 9, 17, 10 and 12, of ask and step alike.
-pub(crate) fn checked(
-    writer: &[u8],
-    reader: &[u8],
-    bound: u64,
-    rule: u64,
-    kept: &[u8],
-) -> Result<Pair, Refusal> {
-    let pair = Pair::read(writer, reader, bound, rule)?;
-    // 10: "lent buffer under N bytes"
-    if kept.len() < pair.count() {
-        return Err(Refusal::of_call(10));
-    }
-    // 12: "one of the first N bytes is neither 0 nor 1 (ask, step)"
-    if kept[..pair.count()].iter().any(|byte| *byte > 1) {
-        return Err(Refusal::of_call(12));
-    }
-    Ok(pair)
-}
-
-/// The moves x.y allowed at a configuration in range with respect to the kept
-/// bytes, in order of bit.
-pub(crate) fn allowed_moves(pair: &Pair, kept: &[u8], at: Configuration) -> Vec<(u64, u64)> {
-    let in_k = |at: Configuration| kept[pair.place(at)] == 1;
-    let moves = pair.moves_at(at).into_iter();
-    moves.filter(|xy| pair.allowed(in_k, at, *xy)).collect()
 }

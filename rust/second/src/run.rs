@@ -1,7 +1,8 @@
 //! A run with real items.
 
-use crate::pair::{start, tables, Configuration, Pair};
-use crate::question::checked;
+use crate::kept::Kept;
+use crate::pair::{start, tables, Configuration};
+use crate::reason::Reason;
 use crate::table::{Refusal, Row, Side};
 
 /// "A run is the configuration and the held items, 32-bit, front first;
@@ -102,8 +103,8 @@ pub fn step(
     run: &Run,
     cycle: &Cycle,
 ) -> Stepped {
-    let pair = checked(writer, reader, bound, rule, kept);
-    match pair.and_then(|pair| rows_taken(&pair, kept, run, cycle)) {
+    let kept = Kept::read(writer, reader, bound, rule, kept);
+    match kept.and_then(|kept| rows_taken(&kept, run, cycle)) {
         // "A refused step returns the run given, item 0, mark 0."
         Err(refusal) => Stepped {
             number: refusal.number,
@@ -119,23 +120,23 @@ pub fn step(
 
 /// Refusals 13 to 16, or the two rows that the sides took. "In 14 and 16 the
 /// writer comes first."
-fn rows_taken(pair: &Pair, kept: &[u8], run: &Run, cycle: &Cycle) -> Result<(Row, Row), Refusal> {
+fn rows_taken(kept: &Kept, run: &Run, cycle: &Cycle) -> Result<(Row, Row), Refusal> {
+    let pair = &kept.pair;
     let (x, y) = (cycle.writer_letter, cycle.reader_letter);
-    // 13: "configuration out of range (ask, step), or a nonzero place at or
-    // past the level (step)"
-    if !pair.in_range(run.at()) || run.items[run.level as usize..].iter().any(|i| *i != 0) {
+    pair.check_range(run.at())?;
+    // 13: "or a nonzero place at or past the level (step)"
+    if run.items[run.level as usize..].iter().any(|i| *i != 0) {
         return Err(Refusal::of_call(13));
     }
-    // 14: "letter not below d (step)"
-    if x >= u64::from(pair.writer.letters) {
-        return Err(Refusal::of_side(14, Side::Writer));
-    }
-    if y >= u64::from(pair.reader.letters) {
-        return Err(Refusal::of_side(14, Side::Reader));
-    }
-    // 15: "move not allowed (step)"
-    if !pair.allowed(|at| kept[pair.place(at)] == 1, run.at(), (x, y)) {
-        return Err(Refusal::of_call(15));
+    pair.check_letters((x, y))?;
+    // 15: "move not allowed (step)"; "A step that is refused with 15 carries
+    // it in the row field."
+    let reason = kept.reason(run.at(), (x, y));
+    if reason != Reason::Allowed {
+        return Err(Refusal {
+            row: reason.number(),
+            ..Refusal::of_call(15)
+        });
     }
     // 16: "no row for that state, letter and answer (step)"
     let writer_row = pair.writer.row(run.writer, x, cycle.writer_answer);

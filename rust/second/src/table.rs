@@ -28,7 +28,7 @@ pub struct Refusal {
     pub number: u64,
     /// 0 for no side, else 1 or 2.
     pub side: u64,
-    /// "Rows count from 0."
+    /// "Rows count from 0." At 15 the number of the reason.
     pub row: u64,
 }
 

@@ -279,8 +279,10 @@ fn an_item_passes_at_level_0() {
         let (run, stepped) = both_move(bound, FLOW_THROUGH, 0);
         assert_eq!((stepped.number, stepped.item, stepped.mark), (0, 99, 1));
         assert_eq!(stepped.run, run);
+        // Reason 5, and without room 4.
+        let reason = if bound == 0 { 4 } else { 5 };
         let (run, stepped) = both_move(bound, REGISTERED, 0);
-        assert_eq!((stepped.number, stepped.side, stepped.row), (15, 0, 0));
+        assert_eq!((stepped.number, stepped.side, stepped.row), (15, 0, reason));
         assert_eq!((stepped.item, stepped.mark, stepped.run), (0, 0, run));
     }
 }
@@ -299,7 +301,7 @@ fn an_item_passes_at_a_full_buffer() {
         assert_eq!(stepped.run.items[..], held);
         let (run, stepped) = both_move(bound, REGISTERED, full);
         assert_eq!(run.level, bound);
-        assert_eq!((stepped.number, stepped.side, stepped.row), (15, 0, 0));
+        assert_eq!((stepped.number, stepped.side, stepped.row), (15, 0, 4));
         assert_eq!((stepped.item, stepped.mark, stepped.run), (0, 0, run));
     }
 }

@@ -2,7 +2,8 @@
 //! in the lent buffer after each.
 
 use second::worked::*;
-use second::{ask, begin, build, read, step, Built, Configuration, Cycle, Refusal, Run, Side};
+use second::{ask, begin, build, read, step, why};
+use second::{Built, Configuration, Cycle, Explained, Refusal, Run, Side};
 
 /// Both rules.
 const RULES: [u64; 2] = [0, 1];
@@ -58,7 +59,38 @@ fn refusal(table: &[u8]) -> (u64, u64, u64) {
     all
 }
 
-/// Build, ask and step refuse this writer's table so.
+/// How ask refuses, and why for any letters: 14 comes later.
+fn asked(
+    writer: &[u8],
+    reader: &[u8],
+    bound: u64,
+    rule: u64,
+    kept: &[u8],
+    at: Configuration,
+) -> (u64, u64, u64) {
+    let asked = ask(writer, reader, bound, rule, kept, at);
+    assert_eq!((asked.set, asked.count, asked.lowest), (0, 0, 64));
+    let (number, side, row) = (asked.number, asked.side, asked.row);
+    for xy in [(0, 0), (9, u64::MAX)] {
+        let explained = why(writer, reader, bound, rule, kept, at, xy);
+        let refused = Explained {
+            number,
+            side,
+            row,
+            reason: 0,
+        };
+        assert_eq!(explained, refused);
+        assert_eq!(asked.packed(), explained.packed() + (64 << 48));
+    }
+    (number, side, row)
+}
+
+/// Ask and why of pair A.
+fn asked_of_a(bound: u64, rule: u64, kept: &[u8], at: Configuration) -> (u64, u64, u64) {
+    asked(&A_WRITER, &A_READER, bound, rule, kept, at)
+}
+
+/// Build, ask, why and step refuse this writer's table so.
 fn refused_under(rule: u64, table: &[u8], (number, side, row): (u64, u64, u64)) {
     let mut buffer = [0xEE; 4096];
     let built = build(table, &C_READER, 2, rule, &mut buffer);
@@ -72,9 +104,8 @@ fn refused_under(rule: u64, table: &[u8], (number, side, row): (u64, u64, u64)) 
     assert_eq!(built, expected);
     assert_eq!(buffer, [0xEE; 4096], "buffer untouched");
 
-    let asked = ask(table, &C_READER, 2, rule, &[0; 9], START);
-    assert_eq!((asked.number, asked.side, asked.row), (number, side, row));
-    assert_eq!((asked.set, asked.count, asked.lowest), (0, 0, 64));
+    let asked = asked(table, &C_READER, 2, rule, &[0; 9], START);
+    assert_eq!(asked, (number, side, row));
 
     let run = senseless();
     let stepped = step(table, &C_READER, 2, rule, &[0; 9], &run, &Cycle::default());
@@ -237,8 +268,7 @@ fn refusal_9() {
         for rule in [0, 1, 2, u64::MAX] {
             let built = build(&A_WRITER, &A_READER, bound, rule, &mut []);
             assert_eq!((built.number, built.side, built.row), (9, 0, 0));
-            let asked = ask(&A_WRITER, &A_READER, bound, rule, &[], START);
-            assert_eq!((asked.number, asked.lowest), (9, 64));
+            assert_eq!(asked_of_a(bound, rule, &[], START), (9, 0, 0));
             let stepped = senseless_step(bound, rule, &[]);
             assert_eq!((stepped.number, stepped.run), (9, senseless()));
         }
@@ -257,9 +287,7 @@ fn refusal_17() {
             assert_eq!((built.number, built.side, built.row), (17, 0, 0));
             assert_eq!((built.kept, built.rounds), (0, 0));
             assert_eq!(buffer, vec![5; room], "buffer untouched");
-            let asked = ask(&A_WRITER, &A_READER, 1, rule, &buffer, NOWHERE);
-            assert_eq!((asked.number, asked.side, asked.row), (17, 0, 0));
-            assert_eq!((asked.set, asked.count, asked.lowest), (0, 0, 64));
+            assert_eq!(asked_of_a(1, rule, &buffer, NOWHERE), (17, 0, 0));
             let stepped = senseless_step(1, rule, &buffer);
             assert_eq!((stepped.number, stepped.side, stepped.row), (17, 0, 0));
             assert_eq!((stepped.run, stepped.item), (senseless(), 0));
@@ -279,8 +307,7 @@ fn refusal_10() {
         let mut buffer = [5; 64];
         assert_eq!(build(&A_WRITER, &A_READER, 15, rule, &mut buffer).number, 0);
         // 10 before 12 and 13.
-        let asked = ask(&A_WRITER, &A_READER, 1, rule, &[2; 7], NOWHERE);
-        assert_eq!(asked.number, 10);
+        assert_eq!(asked_of_a(1, rule, &[2; 7], NOWHERE), (10, 0, 0));
         assert_eq!(senseless_step(1, rule, &[2; 7]).number, 10);
     }
 }
@@ -312,10 +339,7 @@ fn refusal_12() {
     for rule in RULES {
         let mut kept = [1, 0, 0, 0, 0, 1, 1, 2];
         // 12 before 13.
-        let asked = ask(&A_WRITER, &A_READER, 1, rule, &kept, NOWHERE);
-        assert_eq!((asked.number, asked.side, asked.row), (12, 0, 0));
-        assert_eq!((asked.set, asked.count, asked.lowest), (0, 0, 64));
-        assert_eq!(asked.packed(), 12 + (64 << 48));
+        assert_eq!(asked_of_a(1, rule, &kept, NOWHERE), (12, 0, 0));
         let stepped = senseless_step(1, rule, &kept);
         assert_eq!((stepped.number, stepped.run), (12, senseless()));
         // Bytes past N are never looked at.
@@ -349,9 +373,7 @@ fn refusal_13() {
     ] {
         let at = Configuration::of(w, r, l);
         for rule in RULES {
-            let asked = ask(&A_WRITER, &A_READER, 1, rule, &A_KEPT, at);
-            assert_eq!((asked.number, asked.side, asked.row), (13, 0, 0));
-            assert_eq!((asked.set, asked.count, asked.lowest), (0, 0, 64));
+            assert_eq!(asked_of_a(1, rule, &A_KEPT, at), (13, 0, 0));
         }
         let mut run = Run {
             writer: w,
@@ -403,23 +425,31 @@ fn at_start(x: u64, y: u64, a: u64, b: u64) -> (u64, u64, u64) {
     (stepped.number, stepped.side, stepped.row)
 }
 
+/// The low bytes of some of these letters are letters.
 #[test]
 fn refusal_14() {
-    assert_eq!(at_start(2, 2, 0, 0), (14, 1, 0));
-    assert_eq!(at_start(0, 2, 0, 0), (14, 2, 0));
-    assert_eq!(at_start(0, u64::MAX, 99, 99), (14, 2, 0));
-    assert_eq!(at_start(256, 0, 0, 0), (14, 1, 0));
+    for letter in [2, 7, 8, 255, 256, 1 << 32, u64::MAX] {
+        for (x, y, side) in [(letter, letter, 1), (letter, 0, 1), (0, letter, 2)] {
+            assert_eq!(at_start(x, y, 99, 99), (14, side, 0));
+            // 14 also where the configuration is not kept.
+            for (rule, kept) in [(0, A_KEPT), (1, A_KEPT), (0, [0; 8]), (1, [0; 8])] {
+                let explained = why(&A_WRITER, &A_READER, 1, rule, &kept, START, (x, y));
+                assert_eq!(explained.packed(), 14 + (side << 8));
+            }
+        }
+    }
 }
 
+/// "15's row is amended": the reason.
 #[test]
 fn refusal_15() {
     // The reader's item at level 0.
-    assert_eq!(at_start(0, 1, 0, 1), (15, 0, 0));
+    assert_eq!(at_start(0, 1, 0, 1), (15, 0, 5));
     // An impossible answer in a move that is not allowed.
-    assert_eq!(at_start(0, 1, 9, 99), (15, 0, 0));
+    assert_eq!(at_start(0, 1, 9, 99), (15, 0, 5));
     // Nothing kept.
     let stepped = step_of_a(&[0; 8], &Run::default(), &Cycle::default());
-    assert_eq!((stepped.number, stepped.side), (15, 0));
+    assert_eq!((stepped.number, stepped.side, stepped.row), (15, 0, 1));
 }
 
 #[test]

@@ -27,6 +27,7 @@ enum What {
     Build,
     Ask,
     AskSet,
+    Why,
 }
 
 thread_local! {
@@ -49,6 +50,7 @@ extern "C" fn make() {
             What::Build => packed::build(writer, reader, bound, rule, &mut call.kept),
             What::Ask => packed::ask(writer, reader, bound, rule, &call.kept, at),
             What::AskSet => packed::ask_set(writer, reader, bound, rule, &call.kept, at),
+            What::Why => packed::why(writer, reader, bound, rule, &call.kept, at, (0, 0)),
         };
     });
 }
@@ -111,6 +113,7 @@ fn main() {
         ("bridge_build", What::Build),
         ("bridge_ask", What::Ask),
         ("bridge_ask_set", What::AskSet),
+        ("bridge_why", What::Why),
     ] {
         let most = pairs
             .iter()

@@ -1,12 +1,12 @@
 -- The largest of the bytes looked at, byte by byte, and what it says of refusal 12. Assumes nothing.
 use Prim.Native.Nat.{ℕ, _+_, _≤_, _<_}
 use native.Mathlib.Omega.{arith}
-use mathlib.Core.Path.{_≡_, refl}
-use mathlib.Core.Bool.{Bool, true, false, cond}
+use mathlib.Core.Path.{_≡_, sym, _∙_}
+use mathlib.Core.Logic.{_⊎_, ⊎-elim}
+use mathlib.Core.Bool.{true, false}
 use mathlib.Core.List.{List}
-use lib.Dec.{ltb}
 use borrow.Author.Count.{below-more}
-use borrow.Author.Tests.{lt-ltb, le-ltb, ltb-true, ltb-false}
+use borrow.Author.Tests.{lt-ltb, le-ltb}
 use Rattle.lists.specs.Search.{some}
 use Rattle.lists.proofs.Search.{hit-some, none-some}
 use Rattle.format.specs.Format.{byte}
@@ -16,19 +16,16 @@ use Rattle.entry.specs.Largest.{Largest}
 pub largest-none : (bytes : List ℕ) → Largest bytes 0 0
 largest-none bytes = record { above = λ p h. absurd (omega arith); reached = λ h. absurd (omega arith) }
 
-pub largest-more : (bytes : List ℕ) (n : ℕ) {most next : ℕ} → Largest bytes n most → next ≡ cond (ltb most (byte bytes n)) (byte bytes n) most
-    → Largest bytes (n + 1) next
-largest-more bytes n {most} {next} l e = go (ltb most (byte bytes n)) refl e
-  where
-    go : (t : Bool) → ltb most (byte bytes n) ≡ t → next ≡ cond t (byte bytes n) most → Largest bytes (n + 1) next
-    go true q is = record {
-      above = below-more _ n (λ p h. omega (arith, l .above p h, ltb-true most (byte bytes n) q, is)) (omega (arith, is));
-      reached = λ h. (n, omega arith, omega (arith, is));
-    }
-    go false q is = record {
-      above = below-more _ n (λ p h. omega (arith, l .above p h, is)) (omega (arith, ltb-false most (byte bytes n) q, is));
-      reached = λ h. let r = l .reached (omega (arith, is)) in (r .0, omega (arith, r .1), omega (arith, r .2, is));
-    }
+pub largest-more : (bytes : List ℕ) (n : ℕ) {most next : ℕ} → Largest bytes n most
+    → (most ≤ next) × (byte bytes n ≤ next) × ((next ≡ most) ⊎ (next ≡ byte bytes n)) → Largest bytes (n + 1) next
+largest-more bytes n {most} {next} l e = record {
+  above = below-more _ n (λ p h. omega (arith, l .above p h, e .0)) (e .1);
+  reached = λ h.
+      ⊎-elim
+      (λ (q : next ≡ most). let r = l .reached (omega arith) in (r .0, omega (arith, r .1), r .2 ∙ sym q))
+      (λ (q : next ≡ byte bytes n). (n, omega arith, sym q))
+      (e .2);
+}
 
 module _ {bytes : List ℕ} {n z : ℕ} (l : Largest bytes n z) where
   -- a byte that is neither 0 nor 1

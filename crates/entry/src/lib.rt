@@ -1,10 +1,8 @@
-// What every call does first: read both tables, test the bound and the rule; and the tests of kept bytes that ask and step share.
+// What every call does first: read both tables, test the bound and the rule; and the tests of kept bytes that ask, why and step share.
 ghost use mathlib.Core.Path.{_≡_};
-ghost use mathlib.Core.Bool.{cond};
 ghost use mathlib.Core.List.{_∷_, []};
 ghost use Prim.Native.Nat.{_≤_};
 ghost use lib.ListN.{length};
-ghost use lib.Dec.{ltb};
 ghost use Rattle.format.specs.Verdicts.{verdictOf, andThen};
 ghost use Rattle.calls.specs.Call.{ruleOf, callOf};
 ghost use Rattle.calls.specs.Refusals.{boundCheck, ruleCheck, lentChecks};
@@ -16,6 +14,7 @@ use rules::Pair;
 use rules::Rule;
 use tables::read;
 use tables::refuse;
+use widths::larger;
 
 // The pair as read stands beside the verdict; a table that was refused is zero in every field.
 pub struct Entry {
@@ -72,15 +71,6 @@ pub fn enter(writer: &[u8], reader: &[u8], bound: u64, rule: u64) -> Entry
         pair: pair,
         verdict: first_of(wv, rv, bound, rule),
     }
-}
-
-fn larger(a: u8, b: u8) -> u8
-    ensures { λ z. ⌜ z ≡ cond (ltb a b) b a ⌝ }
-{
-    if a < b {
-        return b;
-    }
-    a
 }
 
 // The largest of the first n bytes. It looks at each of them, with no early exit: so the loop compiles to wide instructions.

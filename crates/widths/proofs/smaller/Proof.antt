@@ -1,9 +1,9 @@
--- `reasons::smaller` meets its contract. Assumes nothing.
+-- `widths::smaller` meets its contract. Assumes nothing.
 use native.Mathlib.Omega.{arith}
 use mathlib.Core.Path.{refl}
 use mathlib.Core.Logic.{inl, inr}
-use Rattle.reasons.proofs.smaller.Statement.{statement}
-use Rattle.reasons.proofs.smaller.Tie as tie
+use Rattle.widths.proofs.smaller.Statement.{statement}
+use Rattle.widths.proofs.smaller.Tie as tie
 
 returns : tie.Need-returns
 returns c = (omega arith, omega arith, inl refl)

@@ -1,9 +1,9 @@
--- `reasons::larger` meets its contract. Assumes nothing.
+-- `widths::larger` meets its contract. Assumes nothing.
 use native.Mathlib.Omega.{arith}
 use mathlib.Core.Path.{refl}
 use mathlib.Core.Logic.{inl, inr}
-use Rattle.reasons.proofs.larger.Statement.{statement}
-use Rattle.reasons.proofs.larger.Tie as tie
+use Rattle.widths.proofs.larger.Statement.{statement}
+use Rattle.widths.proofs.larger.Tie as tie
 
 returns : tie.Need-returns
 returns c = (omega arith, omega arith, inr refl)

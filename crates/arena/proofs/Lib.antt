@@ -4,3 +4,4 @@ pub mod Loop
 pub mod Steps
 pub mod Marks
 pub mod Rounds
+pub mod Marking

@@ -1,2 +1,3 @@
 pub mod Arena
 pub mod Builder
+pub mod Marking

@@ -1,14 +1,15 @@
-// Entry points for the generator: build, ask and why on byte slices and numbers, each returning one 64-bit number.
-// Document 01, "The calls and what they return"; why is request b's.
+// Entry points for the generator: build, ask, why and check on byte slices and numbers, each returning one 64-bit number.
+// Document 01, "The calls and what they return"; why is request b's, check is request c's.
 ghost use mathlib.Core.Path.{_≡_};
 ghost use Prim.Native.Nat.{_<_, _^_};
 ghost use Rattle.rules.specs.Configurations.{confWith};
 ghost use Rattle.calls.specs.Call.{callOf};
 ghost use Rattle.calls.specs.Ask.{askOf};
 ghost use Rattle.calls.specs.Why.{whyOf};
-ghost use Rattle.calls.specs.Packed.{packed, packedWith, packedAsked, packedExplained, PackedBuild};
+ghost use Rattle.calls.specs.Packed.{packed, packedWith, packedAsked, packedExplained, PackedBuild, PackedCheck};
 use ask::ask;
 use build::build;
+use checker::check;
 use format::Verdict;
 use why::why;
 
@@ -132,4 +133,18 @@ pub extern "C" fn bridge_why(
     );
     let v = e.verdict;
     pack_verdict(v, e.reason as u64, 0)
+}
+
+#[no_mangle]
+pub extern "C" fn bridge_check(
+    writer: &[u8],
+    reader: &[u8],
+    bound: u64,
+    rule: u64,
+    list: &[u8],
+) -> u64
+    ensures { λ z. ⌜ PackedCheck (callOf (now (writer .entry)) (now (reader .entry)) bound rule) (now (list .entry)) z ⌝ }
+{
+    let v = check(writer, reader, bound, rule, list);
+    pack_verdict(v, 0, 0)
 }

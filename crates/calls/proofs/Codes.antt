@@ -1,4 +1,4 @@
--- What the number of a verdict says: 0 that the call is done, 11 that there is no converter. Assumes nothing.
+-- What the number of a verdict says: 0 that the call is done, 11 that there is no converter, 19 and 20 that a list has a faulty place. Assumes nothing.
 use Prim.Native.Nat.{ℕ, suc}
 use native.Mathlib.Omega.{arith}
 use mathlib.Core.Path.{_≡_, refl, sym, ap, _∙_, subst}
@@ -13,7 +13,7 @@ use Rattle.format.specs.declared.Verdict.{Verdict}
 use Rattle.format.specs.declared.Verdict.the-variants.{Fine, Refused}
 use Rattle.format.specs.Verdicts.{numberOf, Check, verdictOf}
 use Rattle.format.specs.Reads.{headerChecks, rowChecks}
-use Rattle.format.proofs.Verdicts.{given-verdict}
+use Rattle.format.proofs.Verdicts.{given-verdict, refused-not-fine}
 use Rattle.rules.specs.declared.Conf.{Conf}
 use Rattle.calls.specs.declared.Asked.{Asked}
 use Rattle.calls.specs.declared.Built.{Built}
@@ -25,11 +25,13 @@ use Rattle.calls.specs.Refusals.{beginChecks}
 use Rattle.calls.specs.Build.{Made, buildChecks, BuildSays}
 use Rattle.calls.specs.Ask.{askChecks, askOf}
 use Rattle.calls.specs.Why.{whyChecks, whyOf}
+use Rattle.calls.specs.Check.{NoFault, BadMove, NoWay, Judged, checkChecks, CheckSays}
 use Rattle.calls.specs.Begin.{beginOf}
 use Rattle.calls.specs.Step.{stepChecks, stepOf}
 use Rattle.calls.proofs.Accepted.{step-verdict}
 use Rattle.calls.proofs.Refused.{why-verdict}
 use Rattle.calls.proofs.Largest.{build-cases}
+use Rattle.calls.proofs.Checked.{Whole, check-cases}
 
 -- ---- a list of checks none of which has the number n
 
@@ -113,3 +115,44 @@ build-numbered k before after b says =
       zero-done = h .zero-done;
       eleven-none = (λ q. absurd (h .not-eleven q), λ q. ap numberOf q);
     }
+
+-- ---- check: 0 says accepted, 19 that the place in the row permits a bad move, 20 that it has no way to finish; all three past 18
+
+pub record NumberedCheck (k : Call) (list : List ℕ) (v : Verdict) : Type 0 where
+  pub zero-done : (numberOf v ≡ 0) ↔ (v ≡ Fine)
+  pub zero-none : numberOf v ≡ 0 → Whole k list × NoFault (pairOf k) list v
+  pub nineteen-bad : numberOf v ≡ 19 → Whole k list × BadMove (pairOf k) list v
+  pub twenty-stuck : numberOf v ≡ 20 → Whole k list × NoWay (pairOf k) list v
+
+module _ (k : Call) (list : List ℕ) (v : Verdict) (says : CheckSays k list v) where
+  -- a number that no check has is said past the checks
+  past-checks : (n : ℕ) → any (hasNumber n) (checkChecks k list) ≡ false → numberOf v ≡ n → Whole k list × Judged (pairOf k) list v
+  past-checks n off e =
+      check-cases k list v (Whole k list × Judged (pairOf k) list v) says
+      (λ whole m. (whole, m))
+      (λ m s r q u. absurd (refused-not-fine (sym q ∙ no-such n (checkChecks k list) off (ap numberOf (q ∙ sym u) ∙ e))))
+
+  by-zero : Judged (pairOf k) list v → numberOf v ≡ 0 → NoFault (pairOf k) list v
+  by-zero (inl p) e = p
+  by-zero (inr (inl p)) e = absurd (omega (arith, e, ap numberOf (p .verdict)))
+  by-zero (inr (inr p)) e = absurd (omega (arith, e, ap numberOf (p .verdict)))
+
+  by-nineteen : Judged (pairOf k) list v → numberOf v ≡ 19 → BadMove (pairOf k) list v
+  by-nineteen (inl p) e = absurd (omega (arith, e, ap numberOf (p .verdict)))
+  by-nineteen (inr (inl p)) e = p
+  by-nineteen (inr (inr p)) e = absurd (omega (arith, e, ap numberOf (p .verdict)))
+
+  by-twenty : Judged (pairOf k) list v → numberOf v ≡ 20 → NoWay (pairOf k) list v
+  by-twenty (inl p) e = absurd (omega (arith, e, ap numberOf (p .verdict)))
+  by-twenty (inr (inl p)) e = absurd (omega (arith, e, ap numberOf (p .verdict)))
+  by-twenty (inr (inr p)) e = p
+
+  -- 0, 19 and 20 say what they stand for
+  pub check-numbered : NumberedCheck k list v
+  unfolding hasNumber headerChecks rowChecks
+  check-numbered = record {
+    zero-done = (λ e. by-zero (past-checks 0 refl e .1) e .verdict, λ e. ap numberOf e);
+    zero-none = λ e. let m = past-checks 0 refl e in (m .0, by-zero (m .1) e);
+    nineteen-bad = λ e. let m = past-checks 19 refl e in (m .0, by-nineteen (m .1) e);
+    twenty-stuck = λ e. let m = past-checks 20 refl e in (m .0, by-twenty (m .1) e);
+  }

@@ -7,6 +7,7 @@ pub mod Accepted
 pub mod Refused
 pub mod Points
 pub mod Largest
+pub mod Checked
 pub mod Ranges
 pub mod Numbers
 pub mod Unpacked

@@ -1,7 +1,7 @@
--- Number and side of a verdict are below 2^8 and its row below 2^16, for every refusal of build, ask and why. Assumes nothing.
+-- Number and side of a verdict are below 2^8 and its row below 2^16, for every refusal of build, ask, why and check. Assumes nothing.
 use Prim.Native.Nat.{ℕ, _≤_, _<_, _^_}
 use native.Mathlib.Omega.{arith}
-use mathlib.Core.Path.{_≡_, refl, sym, ap, subst}
+use mathlib.Core.Path.{_≡_, refl, sym, ap, _∙_, subst}
 use mathlib.Core.Logic.{inl, inr}
 use mathlib.Core.Bool.{Bool, true, false, cond}
 use mathlib.Core.List.{List, [], _∷_, _++_}
@@ -15,6 +15,8 @@ use Rattle.format.specs.Reads.{badRow, fallRow, headerChecks, rowChecks, checks
 use Rattle.format.proofs.Verdicts.{fine-silent, verdict-append, given-verdict}
 use Rattle.format.proofs.Header.{range-of}
 use Rattle.rules.specs.declared.Conf.{Conf}
+use Rattle.rules.specs.Configurations.{place}
+use Rattle.rules.specs.Permissions.{LowestFaulty}
 use Rattle.calls.specs.declared.Built.{Built}
 use Rattle.calls.specs.declared.Asked.{Asked}
 use Rattle.calls.specs.Call.{Call, pairOf}
@@ -22,7 +24,12 @@ use Rattle.calls.specs.Refusals.{boundCheck, ruleCheck, beginChecks, ent
 use Rattle.calls.specs.Build.{Untouched, Made, buildsChecks, buildChecks, BuildSays}
 use Rattle.calls.specs.Ask.{moveSet, answered, unanswered, asksChecks, askChecks, askOf}
 use Rattle.calls.specs.Why.{whysChecks, whyOf}
+use Rattle.calls.specs.Lists.{Permits}
+use Rattle.calls.specs.Check.{judgesChecks, Judged, checkChecks, CheckSays}
+use Rattle.calls.proofs.Silent.{enter-known}
 use Rattle.calls.proofs.Refused.{why-verdict}
+use Rattle.calls.proofs.Checked.{Whole, check-enters, check-cases}
+use Rattle.calls.proofs.Ranges.{faulty-few}
 
 abbrev pub Small : Verdict → Type 0
 Small v = (numberOf v < 2 ^ 8) × (sideOf v < 2 ^ 8) × (rowOf v < 2 ^ 16)
@@ -134,3 +141,23 @@ module _ (k : Call) where
         none (omega arith),
         (none (omega arith), (line (omega arith) (omega arith), (line (omega arith) (omega arith), (line (omega arith) (omega arith), tt)))),
       )))
+
+  check-checks-small : (list : List ℕ) → Small (verdictOf (checkChecks k list))
+  check-checks-small list =
+      let rest : List Check = judgesChecks (pairOf k) list in
+      joined-small (enterChecks k) rest enter-small (λ _. lines-small rest (none (omega arith), tt))
+
+  -- 19 and 20 have a place as row, and it is below 4,096
+  pub checked-small : (list : List ℕ) (v : Verdict) → CheckSays k list v → Small v
+  checked-small list v says =
+      check-cases k list v (Small v) says
+      (λ whole m. judged whole m)
+      (λ n s r e u. subst Small (e ∙ sym u) (check-checks-small list))
+    where
+      row-small : Whole k list → (c : Conf) → LowestFaulty (pairOf k) (Permits (pairOf k) list) c → place (pairOf k) c < 2 ^ 16
+      row-small whole c l = omega (arith, faulty-few (pairOf k) (enter-known k (check-enters k list whole)) (Permits (pairOf k) list) c (l .faulty))
+
+      judged : Whole k list → Judged (pairOf k) list v → Small v
+      judged whole (inl p) = subst Small (sym (p .verdict)) fine-small
+      judged whole (inr (inl p)) = subst Small (sym (p .verdict)) (omega arith, omega arith, row-small whole (p .at) (p .lowest))
+      judged whole (inr (inr p)) = subst Small (sym (p .verdict)) (omega arith, omega arith, row-small whole (p .at) (p .lowest))

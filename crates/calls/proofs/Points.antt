@@ -13,7 +13,8 @@ use Rattle.format.specs.Verdicts.{verdictOf}
 use Rattle.rules.specs.declared.Conf.{Conf}
 use Rattle.rules.specs.declared.Pair.{Pair}
 use Rattle.rules.specs.Configurations.{Within, size, Outcome, after, start, finish}
-use Rattle.rules.specs.Sets.{AllowedIn, ReachesIn, there, onward}
+use Rattle.rules.specs.Ways.{there, onward}
+use Rattle.rules.specs.Sets.{AllowedIn, ReachesIn}
 use Rattle.rules.specs.Kept.{KeptAt, IsKept, keptCount}
 use Rattle.rules.proofs.Sets.{allowed-mono}
 use Rattle.rules.proofs.Bytes.{first-kept, kept-path}

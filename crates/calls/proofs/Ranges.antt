@@ -1,5 +1,6 @@
--- What is packed fits its place: kept and rounds are at most 4,096, ask's count and lowest at most 64, why's reason at most 6. Assumes nothing.
-use Prim.Native.Nat.{ℕ, _≤_}
+-- What is packed fits its place: kept and rounds are at most 4,096, ask's count and lowest at most 64, why's reason at most 6, a faulty place below
+-- 4,096. Assumes nothing.
+use Prim.Native.Nat.{ℕ, _≤_, _<_}
 use native.Mathlib.Omega.{arith}
 use mathlib.Core.Path.{_≡_, refl, ap}
 use mathlib.Core.Logic.{inl, inr}
@@ -11,11 +12,15 @@ use Rattle.format.specs.declared.Verdict.the-variants.{Fine, Refused}
 use Rattle.format.specs.Verdicts.{verdictOf, given}
 use Rattle.rules.specs.declared.Pair.{Pair}
 use Rattle.rules.specs.declared.Conf.{Conf}
-use Rattle.rules.specs.Configurations.{size}
+use Rattle.rules.specs.Configurations.{size, place}
+use Rattle.rules.specs.Ways.{Moves}
+use Rattle.rules.specs.Permissions.{Faulty}
 use Rattle.rules.specs.Kept.{keptCount}
 use Rattle.rules.specs.Reasons.{Reason, Allowed, NotKept, NoWriterRow, NoReaderRow, Overflows, Underflows, LandsOutside, reasonNumber}
+use Rattle.rules.proofs.Places.{place-in}
 use Rattle.rules.proofs.Bytes.{kept-few}
 use Rattle.rules.proofs.Laws.{rounds-between}
+use Rattle.rules.proofs.Permissions.{reached-within}
 use Rattle.calls.specs.declared.Built.{Built}
 use Rattle.calls.specs.declared.Asked.{Asked}
 use Rattle.calls.specs.declared.Explained.{Explained}
@@ -92,3 +97,9 @@ explained-few k bytes c x y = go (why .verdict) refl
     go : (v : Verdict) → why .verdict ≡ v → why .reason ≤ 6
     go Fine e = let found = why-found k bytes c x y e in omega (arith, found .1, reason-few (found .0))
     go (Refused n s r) e = omega (arith, ap (λ (z : Explained). z .reason) (why-returns k bytes c x y e))
+
+-- ---- check
+
+-- a faulty place is one of the at most 4,096
+pub faulty-few : (X : Pair) → Entered X → (P : Moves) (c : Conf) → Faulty X P c → place X c < 4096
+faulty-few X e P c f = omega (arith, place-in X (reached-within X P (e .good) (f .reached)), size-few X e)

@@ -1,20 +1,20 @@
 -- Checks that are silent: what is known where they are, and that they are where it is known. Assumes nothing.
-use Prim.Native.Nat.{ℕ, _≤_, _<_}
+use Prim.Native.Nat.{ℕ, _+_, _*_, _≤_, _<_}
 use native.Mathlib.Omega.{arith}
 use mathlib.Core.Path.{_≡_, refl, sym, ap, _∙_}
-use mathlib.Core.Bool.{true, false, not, _&&_}
+use mathlib.Core.Bool.{true, false, not, _&&_, _||_}
 use mathlib.Core.List.{List, [], _∷_, _++_}
-use lib.Dec.{ltb, leb, ltb→lt, leb→le}
+use lib.Dec.{eqb, ltb, leb, ltb→lt, leb→le}
 use lib.ListN.{length, take, length-take}
 use lib.Seq.{getD-take}
-use borrow.Author.Tests.{lt-ltb, lt-leb, le-ltb, le-leb, ltb-false, leb-false, eq-eqb, not-false}
+use borrow.Author.Tests.{lt-ltb, lt-leb, le-ltb, le-leb, ltb-false, leb-false, eqb-true, eq-eqb, not-false}
 use Rattle.lists.specs.Search.{some}
 use Rattle.lists.proofs.Bools.{true-is, and-left, and-right, or-none}
 use Rattle.lists.proofs.Search.{some-none, none-some}
 use Rattle.format.specs.declared.Side.the-variants.{Writer, Reader}
 use Rattle.format.specs.declared.Verdict.the-variants.{Fine}
 use Rattle.format.specs.Verdicts.{sideNumber, Check, verdictOf}
-use Rattle.format.specs.Format.{byte}
+use Rattle.format.specs.Format.{byte, versionIn, lengthIn}
 use Rattle.format.specs.Reads.{checks, readOf}
 use Rattle.format.proofs.Verdicts.{fine-front, fine-goes-on, fine-silent, verdict-append, then-none, given-fine}
 use Rattle.format.proofs.Readings.{read-verdict}
@@ -27,11 +27,13 @@ use Rattle.calls.specs.Call.{Call, callOf, pairOf}
 use Rattle.calls.specs.Refusals.{boundCheck, ruleCheck, beginChecks, enterChecks, isOther, lentChecks, inRange, confCheck, letterChecks}
 use Rattle.calls.specs.Build.{buildsChecks}
 use Rattle.calls.specs.Ask.{asksChecks}
+use Rattle.calls.specs.Lists.{listWrong}
+use Rattle.calls.specs.Check.{judgesChecks}
 use Rattle.rules.specs.Kept.{IsKept}
 use Rattle.calls.specs.Begin.{begun, beginOf}
 use Rattle.calls.specs.Runs.{heldAt, confOf, heldOf, GoodRun}
 use Rattle.calls.specs.Step.{nonzero, runCheck, openChecks}
-use Rattle.calls.specs.Past.{Entered, Buildable, Askable}
+use Rattle.calls.specs.Past.{Entered, Buildable, Askable, Listed}
 use Rattle.calls.proofs.Queues.{held-count, padded-zero}
 
 -- ---- 1 to 9, and 17
@@ -154,6 +156,43 @@ module _ (X : Pair) (x y : ℕ) where
 
   pub letters-silent : x < X .writer .letters → y < X .reader .letters → verdictOf (letterChecks X x y) ≡ Fine
   letters-silent hx hy = rw (lt-leb _ _ hx, lt-leb _ _ hy)
+
+-- ---- 18
+
+-- a list of n configurations: its version is 1, its count is true, and eight bytes stand for each configuration behind the first three
+pub record ListFits (n : ℕ) (list : List ℕ) : Type 0 where
+  pub version : versionIn list ≡ 1
+  pub count : lengthIn list ≡ 8 * n
+  pub long : length list ≡ 3 + 8 * n
+
+module _ (n : ℕ) (list : List ℕ) where
+  -- 18 is silent exactly where the list is such a one
+  pub list-known : listWrong n list ≡ false → ListFits n list
+  list-known e =
+      let version = eqb (versionIn list) 1 in
+      let short = ltb (length list) 3 in
+      let true-length = eqb (lengthIn list + 3) (length list) in
+      let all = eqb (lengthIn list) (8 * n) in
+      let a = or-none (not version) (short || (not true-length || not all)) e in
+      let b = or-none short (not true-length || not all) (a .1) in
+      let c = or-none (not true-length) (not all) (b .1) in
+      let whole : lengthIn list + 3 ≡ length list = eqb-true _ _ (not-false true-length (c .0)) in
+      let count : lengthIn list ≡ 8 * n = eqb-true _ _ (not-false all (c .1)) in
+      record { version = eqb-true _ _ (not-false version (a .0)); count = count; long = omega (arith, whole, count) }
+
+  pub list-silent : ListFits n list → listWrong n list ≡ false
+  list-silent h =
+      rw (
+        eq-eqb _ _ (h .version),
+        le-ltb (length list) 3 (omega (arith, h .long)),
+        eq-eqb (lengthIn list + 3) (length list) (omega (arith, h .count, h .long)),
+        eq-eqb _ _ (h .count),
+      )
+
+-- what is known of a list past 18
+pub check-known : (X : Pair) (list : List ℕ) → Entered X → verdictOf (judgesChecks X list) ≡ Fine → Listed X list
+check-known X list e fine =
+    record { good = e .good; few = e .few; long = list-known (size X) list (fine-silent (judgesChecks X list) fine .0) .long }
 
 -- ---- begin, past 9
 

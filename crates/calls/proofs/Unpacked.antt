@@ -13,10 +13,11 @@ use Rattle.calls.specs.declared.Explained.{Explained}
 use Rattle.calls.specs.Call.{Call}
 use Rattle.calls.specs.Ask.{askOf}
 use Rattle.calls.specs.Why.{whyOf}
-use Rattle.calls.specs.Packed.{packedWith, packedBuilt, packedAsked, packedExplained, PackedBuild}
+use Rattle.calls.specs.Packed.{packedWith, packedBuilt, packedAsked, packedExplained, PackedBuild, PackedCheck}
 use Rattle.calls.proofs.Largest.{one-result}
+use Rattle.calls.proofs.Checked.{check-one}
 use Rattle.calls.proofs.Ranges.{built-few, asked-few, explained-few}
-use Rattle.calls.proofs.Numbers.{Small, built-small, asked-small, explained-small}
+use Rattle.calls.proofs.Numbers.{Small, built-small, asked-small, explained-small, checked-small}
 
 -- the digits of z are these: number, side and row of the verdict, and the last two places
 pub record Unpacked (z : ℕ) (v : Verdict) (fourth fifth : ℕ) : Type 0 where
@@ -64,6 +65,17 @@ module _ (k : Call) where
   why-fields bytes c x y =
       let e : Explained = whyOf k bytes c x y in
       unpack (e .verdict) (e .reason) 0 (explained-small k bytes c x y) (omega (arith, explained-few k bytes c x y))
+
+  -- check's number, side and place, and nothing above
+  pub check-fields : (list : List ℕ) (z : ℕ) (p : PackedCheck k list z) → Unpacked z (p .verdict) 0 0
+  check-fields list z p =
+      subst (λ (y : ℕ). Unpacked y (p .verdict) 0 0) (sym (p .number-is))
+      (unpack (p .verdict) 0 0 (checked-small k list (p .verdict) (p .says)) (omega arith))
+
+  -- there is one packed number of a check
+  pub one-checked : (list : List ℕ) (y z : ℕ) → PackedCheck k list y → PackedCheck k list z → y ≡ z
+  one-checked list y z p q =
+      p .number-is ∙ ap (λ (v : Verdict). packedWith v 0 0) (check-one k list (p .verdict) (q .verdict) (p .says) (q .says)) ∙ sym (q .number-is)
 
   -- there is one packed number, and one content of the lent buffer
   pub one-packed : (before after₁ after₂ : List ℕ) (y z : ℕ) → PackedBuild k before after₁ y → PackedBuild k before after₂ z → (y ≡ z) × (after₁ ≡ after₂)

@@ -3,6 +3,8 @@ pub mod Refusals
 pub mod Build
 pub mod Ask
 pub mod Why
+pub mod Lists
+pub mod Check
 pub mod Items
 pub mod Runs
 pub mod Begin

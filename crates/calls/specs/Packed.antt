@@ -11,6 +11,7 @@ use Rattle.calls.specs.declared.Built.{Built}
 use Rattle.calls.specs.declared.Explained.{Explained}
 use Rattle.calls.specs.Call.{Call}
 use Rattle.calls.specs.Build.{BuildSays}
+use Rattle.calls.specs.Check.{CheckSays}
 
 abbrev pub packed : ℕ → ℕ → ℕ → ℕ → ℕ → ℕ
 packed number side row fourth fifth = number + 2 ^ 8 * side + 2 ^ 16 * row + 2 ^ 32 * fourth + 2 ^ 48 * fifth
@@ -33,3 +34,9 @@ pub record PackedBuild (k : Call) (before after : List ℕ) (z : ℕ) : Type 0 w
   pub built : Built
   pub says : BuildSays k before after built
   pub number-is : z ≡ packedBuilt built
+
+-- z is the packed number of what check answers: "number + 2^8 side + 2^16 place"
+pub record PackedCheck (k : Call) (list : List ℕ) (z : ℕ) : Type 0 where
+  pub verdict : Verdict
+  pub says : CheckSays k list verdict
+  pub number-is : z ≡ packedWith verdict 0 0

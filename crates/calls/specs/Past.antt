@@ -1,6 +1,7 @@
 -- A tool, which a reader need not believe: what is known of a call past its refusals, and what the functions below the calls ask.
 -- Assumes nothing. (That it holds where none of them applies is proved: proofs/Silent.antt.)
-use Prim.Native.Nat.{ℕ, _+_, _-_, _≤_, _<_}
+use mathlib.Core.Path.{_≡_}
+use Prim.Native.Nat.{ℕ, _+_, _-_, _*_, _≤_, _<_}
 use mathlib.Core.List.{List}
 use lib.ListN.{length}
 use Rattle.format.specs.declared.Row.{Row}
@@ -36,3 +37,9 @@ pub record Movable (u : Run) (w r : Row) : Type 0 where
   pub enough : r .item ≤ u .level + w .item
   pub writes : w .item ≤ 1
   pub takes : r .item ≤ 1
+
+-- past 18
+pub record Listed (X : Pair) (list : List ℕ) : Type 0 where
+  pub good : GoodPair X
+  pub few : X .bound ≤ 15
+  pub long : length list ≡ 3 + 8 * size X

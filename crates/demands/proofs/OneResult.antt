@@ -1,5 +1,6 @@
 -- Two results that satisfy the contract of the same call are equal. read, ask, why, begin and step lend nothing that they may write, and their
--- contracts are equations; build's says the lent buffer too (from `one-result` of the crate calls). Assumes nothing.
+-- contracts are equations; build's says the lent buffer too (from `one-result` of the crate calls), and check's names the lowest faulty place (from
+-- `check-one`). Assumes nothing.
 use Prim.Native.Nat.{ℕ}
 use mathlib.Core.Path.{_≡_, sym, _∙_}
 use mathlib.Core.List.{List}
@@ -15,6 +16,9 @@ use Rattle.calls.specs.Why.{whyOf}
 use Rattle.calls.specs.declared.Built.{Built}
 use Rattle.calls.specs.Build.{BuildSays}
 use Rattle.calls.proofs.Largest.{one-result}
+use Rattle.format.specs.declared.Verdict.{Verdict}
+use Rattle.calls.specs.Check.{CheckSays}
+use Rattle.calls.proofs.Checked.{check-one}
 use Rattle.calls.specs.declared.Run.{Run}
 use Rattle.calls.specs.declared.Cycle.{Cycle}
 use Rattle.calls.specs.declared.Begun.{Begun}
@@ -46,3 +50,7 @@ module _ (k : Call) where
   pub one-build : (before after₁ after₂ : List ℕ) (a b : Built)
       → BuildSays k before after₁ a → BuildSays k before after₂ b → (a ≡ b) × (after₁ ≡ after₂)
   one-build = one-result k
+
+  -- no buffer is lent, and the verdict is all that check returns
+  pub one-check : (list : List ℕ) (v w : Verdict) → CheckSays k list v → CheckSays k list w → v ≡ w
+  one-check = check-one k

@@ -8,11 +8,12 @@ use Prim.Native.Nat.{ℕ, zero, suc, _+_, _*_, _/_, _%_, _^_, _≤_, _<_, suc-le
 use native.Mathlib.Nat.{eq-or-lt-of-le, add-zero, suc-add, add-suc, div-one, pow-suc, pow-succ', div-div-eq-div-mul, le-of-suc-le-suc, not-suc-le-zero}
 use native.Mathlib.Numerals.{add-one}
 use native.Mathlib.Omega.{arith}
-use lib.Dec.{T}
+use lib.Dec.{T, eqb}
 use lib.Count.{ones, ones-step, ones-ones, trailingZeros, under}
 use Rattle.lists.specs.Lists.{tabFrom, tab, count}
 use Rattle.lists.specs.Search.{seek, itself, first}
 use Rattle.lists.specs.Bits.{bit, number}
+use Rattle.lists.specs.Masks.{hasBit}
 
 pub bit-le : (b : Bool) → bit b ≤ 1
 bit-le true = suc-le-suc zero-le
@@ -21,6 +22,10 @@ bit-le false = zero-le
 pub bit-true : (b : Bool) → (bit b ≡ 1) ↔ T b
 bit-true true = (λ e. tt, λ t. refl)
 bit-true false = (λ e. absurd (omega arith), λ t. absurd t)
+
+bit-test : (b : Bool) → eqb (bit b) 1 ≡ b
+bit-test true = refl
+bit-test false = refl
 
 -- ---- the same number, its lowest bit first: f i, f (i + 1), .., n digits
 
@@ -71,12 +76,16 @@ module _ (f : ℕ → Bool) where
       ∙ bit-at (suc i) n m (le-of-suc-le-suc h)
       ∙ ap (λ (k : ℕ). bit (f k)) (suc-add i m ∙ sym (add-suc i m))
 
+  digit-is : (n m : ℕ) → m < n → number f n / 2 ^ m % 2 ≡ bit (f m)
+  digit-is n m h = ap (λ (x : ℕ). x / 2 ^ m % 2) (number-low n) ∙ bit-at 0 n m h ∙ ap (λ (k : ℕ). bit (f k)) (omega arith)
+
   -- the bit m says whether the test passes at m
   pub number-bit : (n m : ℕ) → m < n → (number f n / 2 ^ m % 2 ≡ 1) ↔ T (f m)
-  number-bit n m h =
-      let e : number f n / 2 ^ m % 2 ≡ bit (f m) =
-      ap (λ (x : ℕ). x / 2 ^ m % 2) (number-low n) ∙ bit-at 0 n m h ∙ ap (λ (k : ℕ). bit (f k)) (omega arith) in
-      (λ d. bit-true (f m) .0 (sym e ∙ d), λ t. e ∙ bit-true (f m) .1 t)
+  number-bit n m h = let e = digit-is n m h in (λ d. bit-true (f m) .0 (sym e ∙ d), λ t. e ∙ bit-true (f m) .1 t)
+
+  pub number-has : (n m : ℕ) → m < n → hasBit (number f n) m ≡ f m
+  unfolding hasBit
+  number-has n m h = ap (λ (x : ℕ). eqb x 1) (digit-is n m h) ∙ bit-test (f m)
 
   -- there are no digits above them
   pub number-below : (n : ℕ) → number f n < 2 ^ n

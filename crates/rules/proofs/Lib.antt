@@ -6,3 +6,4 @@ pub mod Tools
 pub mod Bytes
 pub mod Laws
 pub mod Bridges
+pub mod Permissions

@@ -2,3 +2,4 @@ pub mod RowsFor
 pub mod Decided
 pub mod Reasoned
 pub mod Passage
+pub mod Links

@@ -5,7 +5,7 @@ use mathlib.Core.Path.{refl}
 use Rattle.lists.proofs.Bits.{number-below}
 use Rattle.rules.specs.Reasons.{Reason}
 use Rattle.outcomes.specs.Outcomes.{reasonOn}
-use Rattle.reasons.proofs.Extremes.{few-writer, few-reader}
+use Rattle.units.proofs.Passing.{few-writer, few-reader}
 use Rattle.reasons.proofs.Looking.{LooksTo, looks-none, looks-more, looks-all, letter-two}
 use Rattle.reasons.proofs.look_on.Statement.{statement}
 use Rattle.reasons.proofs.look_on.Tie as tie

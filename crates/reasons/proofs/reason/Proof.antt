@@ -1,7 +1,8 @@
 -- `reasons::reason` meets its contract: the tests in their order. Assumes nothing.
+use mathlib.Core.Path.{sym, _∙_}
 use borrow.Author.Tests.{not-true, not-false}
-use Rattle.reasons.proofs.Extremes.{no-writer, no-reader, room-little, stock-little, some-overflows, some-underflows, all-passing}
-use Rattle.reasons.proofs.Extremes.{some-leaves, none-leaves}
+use Rattle.units.proofs.Passing.{room-little, stock-little, all-passing}
+use Rattle.reasons.proofs.Extremes.{no-writer, no-reader, some-overflows, some-underflows, some-leaves, none-leaves}
 use Rattle.reasons.proofs.reason.Statement.{statement}
 use Rattle.reasons.proofs.reason.Tie as tie
 
@@ -25,7 +26,7 @@ has-room-requires : tie.Need-has-room-requires
 has-room-requires c κs =
     let y = c .before in
     let e = start (writer y) in
-    room-little (e .args .k .now) _ _ _ _ _ (e .pre .0) (e .pre .1) (e .pre .2) (writer y .if1 .left) (y .if2 .left)
+    room-little _ _ _ _ _ (e .pre .1) (e .pre .2) (writer y .if1 .left) (y .if2 .left) (e .pre .0)
 
 returns-3 : tie.Need-returns-3
 returns-3 c =
@@ -38,7 +39,7 @@ has-stock-requires : tie.Need-has-stock-requires
 has-stock-requires c κs =
     let y = c .before .before .before in
     let e = start (writer y) in
-    stock-little (e .args .k .now) _ _ _ _ _ (e .pre .0) (e .pre .1) (e .pre .2) (writer y .if1 .left) (y .if2 .left)
+    stock-little _ _ _ _ _ (e .pre .1) (e .pre .2) (writer y .if1 .left) (y .if2 .left) (e .pre .0)
 
 returns-4 : tie.Need-returns-4
 returns-4 c =
@@ -54,8 +55,8 @@ leaves-requires c κs =
     let y = r .before .before .before in
     let e = start (writer y) in (
       e .pre .0,
-      all-passing (e .args .k .now) _ _ _ _ _ (e .pre .0) (e .pre .1) (e .pre .2) (writer y .if1 .left) (y .if2 .left)
-          (r .before .has-room .ensures) (not-false _ (r .if3 .left)) (c .before .has-stock .ensures) (not-false _ (c .if4 .left)),
+      all-passing _ _ (e .args .s) _ _ (e .pre .1) (e .pre .2)
+          (sym (r .before .has-room .ensures) ∙ not-false _ (r .if3 .left)) (sym (c .before .has-stock .ensures) ∙ not-false _ (c .if4 .left)),
     )
 
 returns-5 : tie.Need-returns-5

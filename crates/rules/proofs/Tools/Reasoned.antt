@@ -25,13 +25,13 @@ use Rattle.rules.proofs.Reasons.{AllPass, one-reason, allowed-zero, zer
 use Rattle.rules.proofs.Tools.RowsFor.{rows-may, may-rows, outcomes-of, of-outcomes}
 use Rattle.rules.proofs.Tools.Decided.{some-member, member-some}
 
-row-test : (t : Table) (state letter : ℕ) → T (nonEmpty (rowsFor t state letter)) ↔ ((r : Row) × May t state letter r)
+pub row-test : (t : Table) (state letter : ℕ) → T (nonEmpty (rowsFor t state letter)) ↔ ((r : Row) × May t state letter r)
 row-test t state letter = (
   λ n. let s = some-member (rowsFor t state letter) n in (s .0, rows-may t state letter (s .1)),
   λ m. member-some (rowsFor t state letter) (may-rows t state letter (m .1)),
 )
 
-some-test : (X : Pair) (c : Conf) (x y : ℕ) (f : Row → Row → Bool) → T (someOutcome X c x y f) ↔ SomeOutcome X c x y (λ w r. T (f w r))
+pub some-test : (X : Pair) (c : Conf) (x y : ℕ) (f : Row → Row → Bool) → T (someOutcome X c x y f) ↔ SomeOutcome X c x y (λ w r. T (f w r))
 some-test X c x y f =
     let test : Row × Row → Bool = λ o. f (o .0) (o .1) in
     let os : List (Row × Row) = outcomes X c x y in (

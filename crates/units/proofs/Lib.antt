@@ -1,0 +1,5 @@
+pub mod Spreading
+pub mod Passing
+pub mod Copying
+pub mod Safety
+pub mod Sets

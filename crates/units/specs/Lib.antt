@@ -1,0 +1,3 @@
+pub mod Units
+pub mod Extremal
+pub mod Sifting

@@ -10,8 +10,10 @@
 //! Every input is built by all first, and they have to agree. Then they take
 //! turns, and the median of the turns of each is compared. Times are the
 //! thread's own processor time, so that other work on the machine counts
-//! little. A ratio below 1 says that the proved one is faster.
+//! little. A ratio below 1 says that the proved one is faster. Ask and check
+//! are measured likewise, each beside its own in Rust.
 
+mod checks;
 mod clock;
 
 use bench::{heap, one, same, tuned};
@@ -53,6 +55,9 @@ fn main() {
     }
     if "ask".contains(&only) {
         RULES.iter().for_each(|rule| compare_asks(*rule));
+    }
+    if "check".contains(&only) {
+        RULES.iter().for_each(|rule| checks::compare(*rule));
     }
 }
 
@@ -96,16 +101,13 @@ fn many_rounds_groups(rule: u64, few: usize) -> Vec<Group> {
 
 fn groups(rule: u64) -> Vec<Group> {
     let dense = |letters| move |r: &mut Random| large_pair(r, letters, rule);
-    let any_bound = |r: &mut Random| {
-        let pair = small_pair(r, rule);
-        let bound = r.below(16);
-        Pair { bound, ..pair }
-    };
     vec![
         random_group("20 dense pairs, 8 letters", 1008, 20, dense(8)),
         random_group("20 dense pairs, 2 letters", 1002, 20, dense(2)),
         random_group("1,000 small pairs", 1, 1000, |r| small_pair(r, rule)),
-        random_group("1,000 small pairs, any bound", 2, 1000, any_bound),
+        random_group("1,000 small pairs, any bound", 2, 1000, |r| {
+            any_bound(r, rule)
+        }),
         Group {
             name: "chains, 16 by 16 states".to_string(),
             source: "chains".to_string(),
@@ -119,6 +121,12 @@ fn groups(rule: u64) -> Vec<Group> {
             turns: TURNS,
         },
     ]
+}
+
+fn any_bound(random: &mut Random, rule: u64) -> Pair {
+    let pair = small_pair(random, rule);
+    let bound = random.below(16);
+    Pair { bound, ..pair }
 }
 
 fn random_group(name: &str, seed: u64, count: usize, pair: impl Fn(&mut Random) -> Pair) -> Group {
@@ -187,22 +195,34 @@ fn agree(group: &Group) {
     }
 }
 
-/// Microseconds a call.
-fn time_builds(builder: Builder, pairs: &[Pair]) -> f64 {
-    let mut buffer = [0; 4096];
+/// Microseconds a call, of a turn that makes a call for each of the list again
+/// and again.
+fn time_calls<T>(list: &[T], mut call: impl FnMut(&T) -> u64) -> f64 {
     let mut calls = 0;
     let begun = clock::now();
     loop {
-        for pair in pairs {
-            let (writer, reader) = (black_box(&pair.writer), black_box(&pair.reader));
-            black_box(builder(writer, reader, pair.bound, pair.rule, &mut buffer));
+        for input in list {
+            black_box(call(black_box(input)));
         }
-        calls += pairs.len();
+        calls += list.len();
         let taken = clock::now() - begun;
         if taken >= TURN {
             return taken.as_secs_f64() * 1e6 / calls as f64;
         }
     }
+}
+
+fn time_builds(builder: Builder, pairs: &[Pair]) -> f64 {
+    let mut buffer = [0; 4096];
+    time_calls(pairs, |pair| {
+        builder(
+            &pair.writer,
+            &pair.reader,
+            pair.bound,
+            pair.rule,
+            &mut buffer,
+        )
+    })
 }
 
 fn compare_groups(rule: &str, groups: &[&Group]) {

@@ -1,8 +1,8 @@
 //! The four builders in Rust against the second builder, under both rules:
-//! number, side, row, kept, rounds and every byte, past N too. A difference is
-//! printed with the pair as bytes.
+//! number, side, row, kept, rounds and every byte, past N too; and the check in
+//! Rust. A difference is printed with the pair as bytes.
 
-use bench::{heap, one, same, tuned};
+use bench::{check, heap, one, same, tuned};
 use inputs::*;
 use std::collections::BTreeMap;
 
@@ -212,4 +212,60 @@ fn sets_of_moves() {
     }
     println!("sets that are not empty, by rule: {sets:?}; refused: {refused}");
     assert!(sets[0] >= 500 && sets[1] >= 500 && refused >= 500);
+}
+
+/// The check of lists against the second builder's, small, of full size, and
+/// wrong; of damaged pairs too.
+#[test]
+fn checks_of_lists() {
+    let mut random = seeded(20261600);
+    let mut met = BTreeMap::new();
+    let mut compare = |pair: &Pair, list: &[u8]| {
+        let call = (&pair.writer[..], &pair.reader[..], pair.bound, pair.rule);
+        let number = check::check(call.0, call.1, call.2, call.3, list);
+        let checked = second::check(call.0, call.1, call.2, call.3, list);
+        assert!(
+            number == checked.packed(),
+            "check {number:#x} and {:#x} differ on\n{}\nlist: {}",
+            checked.packed(),
+            hex_pair(pair),
+            hex(list)
+        );
+        *met.entry((pair.rule, checked.number)).or_default() += 1;
+    };
+    for i in 0..20_000 {
+        let rule = RULES[i % 2];
+        let pair = match i % 7 {
+            0 => many_moves_pair(&mut random, rule),
+            1 => at(random.below(16), small_pair(&mut random, rule)),
+            _ => small_pair(&mut random, rule),
+        };
+        let sets = random_sets(&mut random, &pair);
+        compare(&pair, &list_bytes(&sets));
+        if i % 101 == 0 {
+            for (_, list) in wrong_lists(&sets, pair.bound as usize + 1) {
+                compare(&pair, &list);
+            }
+        }
+        compare(&damaged_pair(&mut random), &list_bytes(&sets));
+    }
+    for rule in RULES {
+        for letters in 1..=8 {
+            let pair = large_pair(&mut random, letters, rule);
+            for _ in 0..3 {
+                compare(&pair, &list_bytes(&random_sets(&mut random, &pair)));
+            }
+        }
+        for upward in [false, true] {
+            let (pair, sets) = longest_way(upward, rule);
+            compare(&pair, &list_bytes(&sets));
+        }
+    }
+    println!("checks that are equal, by rule and number: {met:?}");
+    for rule in RULES {
+        for number in (1..=9).chain(18..=20).chain([0]) {
+            let count: u64 = met.get(&(rule, number)).copied().unwrap_or(0);
+            assert!(count >= 10, "{number} under rule {rule}: {count}");
+        }
+    }
 }

@@ -4,8 +4,10 @@
 //! [`Rule`] of that buffer go in; out come the configurations in which a
 //! bridge can stay for ever without losing an item and can always still
 //! finish ([`build`]), the moves that are allowed at each ([`ask`]), and why
-//! another move is not ([`why`]). Every call takes anything: what is not a
-//! table is refused, with a [`Refusal`] that says what is wrong.
+//! another move is not ([`why`]). A bridge that comes from elsewhere goes in as
+//! a list of the moves that it permits, and is accepted or not ([`check`]).
+//! Every call takes anything: what is neither a table nor such a list is
+//! refused, with a [`Refusal`] that says what is wrong.
 //!
 //! ```
 //! use bridge::{ask, build, why, Configuration, Reason, Rule};
@@ -41,14 +43,19 @@
 
 mod moves;
 pub mod packed;
+mod permissions;
 mod reason;
 mod refusal;
 mod rule;
 
 pub use moves::{Iter, Moves};
+pub use permissions::Permissions;
 pub use reason::Reason;
 pub use refusal::{Refusal, Side};
 pub use rule::Rule;
+
+use permissions::Places;
+use std::fmt;
 
 /// What an accepted pair gives beside the kept bytes.
 #[derive(Clone, Copy, Debug, PartialEq, Eq)]
@@ -68,6 +75,16 @@ pub struct Configuration {
     pub reader: u64,
     /// The items in the buffer.
     pub level: u64,
+}
+
+impl fmt::Display for Configuration {
+    fn fmt(&self, f: &mut fmt::Formatter<'_>) -> fmt::Result {
+        let (writer, reader, level) = (self.writer, self.reader, self.level);
+        write!(
+            f,
+            "writer state {writer}, reader state {reader}, level {level}"
+        )
+    }
 }
 
 /// Builds the largest set of configurations that a bridge can keep to.
@@ -192,6 +209,72 @@ pub fn why(
     let number = packed::why(writer, reader, bound, rule.number(), kept, at, xy);
     match Refusal::of(number) {
         None => Ok(Reason::of(packed::fourth(number)).expect("a reason is proved to be 0 to 6")),
+        Some(refusal) => Err(refusal),
+    }
+}
+
+/// Accepts a bridge that somebody else built, or says what is wrong with it.
+///
+/// The bridge is a list in bytes: version 1, two bytes for the count of those
+/// after them, and for each configuration in order of place eight bytes, the
+/// set of moves that it permits there, with bit 8x + y for the move x.y. Both
+/// are big-endian. [`Permissions`] writes such a list.
+///
+/// A permitted move is bad if a side has no row for it, or if some outcome
+/// overflows or underflows the buffer. The list is accepted if, wherever its
+/// moves may lead from the start, it permits no bad move (19) and can still
+/// finish (20). Otherwise the refusal names the configuration with the lowest
+/// place at which one of these fails, and 19 if both do. What it permits
+/// elsewhere does not matter.
+///
+/// ```
+/// use bridge::{check, Configuration, Moves, Permissions, Rule};
+///
+/// // One state a side; letter 0 holds, letter 1 moves an item.
+/// let writer = [1, 0, 16, 1, 1, 0, 0, 2, 2, 0, 0, 0, 0, 0, 0, 1, 1, 1, 0];
+/// let mut reader = writer;
+/// reader[3] = 2;
+/// let at_level = |level| Configuration { writer: 0, reader: 0, level };
+/// let says = |list: &[u8]| check(&writer, &reader, 1, Rule::Registered, list);
+///
+/// // Put an item, take it, put the next: nothing is ever lost.
+/// let mut list = Permissions::none(&writer, &reader, 1)?;
+/// list[at_level(0)] = Moves::from_bits(1 << 8);
+/// list[at_level(1)] = Moves::from_bits(1 << 1);
+/// assert_eq!(says(&list.bytes()), Ok(()));
+///
+/// // Who only puts has no room for a second item.
+/// list[at_level(1)] = Moves::from_bits(1 << 8);
+/// let refusal = says(&list.bytes()).unwrap_err();
+/// assert_eq!((refusal.number, refusal.at), (19, Some(at_level(1))));
+///
+/// // Who holds it for ever cannot finish.
+/// list[at_level(1)] = Moves::from_bits(1 << 0);
+/// assert_eq!(
+///     says(&list.bytes()).unwrap_err().to_string(),
+///     "the list has no way to finish from writer state 0, reader state 0, level 1 \
+///      (refusal 20, side 0, row 1)"
+/// );
+/// # Ok::<(), bridge::Refusal>(())
+/// ```
+///
+/// Which move is bad, [`why`] says over kept bytes that are all 1: any reason
+/// but [`Reason::Allowed`], or refusal 14.
+pub fn check(
+    writer: &[u8],
+    reader: &[u8],
+    bound: u64,
+    rule: Rule,
+    list: &[u8],
+) -> Result<(), Refusal> {
+    let number = packed::check(writer, reader, bound, rule.number(), list);
+    match Refusal::of(number) {
+        None => Ok(()),
+        Some(refusal) if refusal.is_at_place() => {
+            let places = Places::of(writer, reader, bound);
+            let at = Some(places.configuration(usize::from(refusal.row)));
+            Err(Refusal { at, ..refusal })
+        }
         Some(refusal) => Err(refusal),
     }
 }

@@ -2,8 +2,8 @@
 
 use std::iter::FusedIterator;
 
-/// The allowed moves at a configuration, each a writer letter x and a reader
-/// letter y.
+/// The moves that are allowed or permitted at a configuration, each a writer
+/// letter x and a reader letter y.
 ///
 /// ```
 /// let moves = bridge::Moves::from_bits(1 << 0 | 1 << 8 | 1 << 10);
@@ -40,7 +40,7 @@ impl Moves {
         self.0 == 0
     }
 
-    /// Is the move x.y allowed? No letter is above 7.
+    /// Is the move x.y among them? No letter is above 7.
     pub fn contains(self, x: u8, y: u8) -> bool {
         x < 8 && y < 8 && self.0 >> (8 * x + y) & 1 == 1
     }

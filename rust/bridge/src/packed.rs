@@ -4,8 +4,8 @@
 //! after the bound; a larger one is refused with 17.
 //!
 //! The number returned is number + 2^8 × side + 2^16 × row + 2^32 × kept +
-//! 2^48 × rounds, with ask's count and lowest in the last two places, or why's
-//! reason and 0.
+//! 2^48 × rounds, with ask's count and lowest in the last two places, why's
+//! reason and 0, or 0 and 0 for check.
 
 use crate::Configuration;
 
@@ -64,6 +64,17 @@ mod entry {
             level: u64,
             writer_letter: u64,
             reader_letter: u64,
+        ) -> u64;
+
+        pub fn bridge_check(
+            writer: *const u8,
+            writer_len: usize,
+            reader: *const u8,
+            reader_len: usize,
+            bound: u64,
+            rule: u64,
+            list: *const u8,
+            list_len: usize,
         ) -> u64;
     }
 }
@@ -171,6 +182,23 @@ pub fn why(
     }
 }
 
+/// Check's packed number; at 19 and 20 the row is a place.
+pub fn check(writer: &[u8], reader: &[u8], bound: u64, rule: u64, list: &[u8]) -> u64 {
+    // SAFETY: as in `build`; nothing is written.
+    unsafe {
+        entry::bridge_check(
+            writer.as_ptr(),
+            writer.len(),
+            reader.as_ptr(),
+            reader.len(),
+            bound,
+            rule,
+            list.as_ptr(),
+            list.len(),
+        )
+    }
+}
+
 /// The number of the refusal, 0 for done.
 pub fn number(packed: u64) -> u8 {
     packed as u8
@@ -186,12 +214,13 @@ pub fn row(packed: u64) -> u16 {
     (packed >> 16) as u16
 }
 
-/// The fourth place: build's kept count, ask's count, or why's reason.
+/// The fourth place: build's kept count, ask's count, why's reason, or 0 for
+/// check.
 pub fn fourth(packed: u64) -> u64 {
     (packed >> 32) & 0xffff
 }
 
-/// The fifth place: build's rounds, ask's lowest, or 0 for why.
+/// The fifth place: build's rounds, ask's lowest, or 0 for why and check.
 pub fn fifth(packed: u64) -> u64 {
     packed >> 48
 }

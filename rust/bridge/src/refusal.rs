@@ -1,6 +1,6 @@
 //! Refusals, in words and in numbers.
 
-use crate::{packed, Reason};
+use crate::{packed, Configuration, Reason};
 use std::fmt;
 
 /// One of the two sides.
@@ -27,20 +27,25 @@ pub enum Side {
 /// ```
 #[derive(Clone, Copy, Debug, PartialEq, Eq, Hash)]
 pub struct Refusal {
-    /// The number of the refusal, 1 to 17.
+    /// The number of the refusal, 1 to 20.
     pub number: u8,
     /// The side whose table it is about, if it is about one.
     pub side: Option<Side>,
     /// The row that it is about, counted from 0; 0 if it is about none. If a
-    /// step's move is not allowed (15), the number of its [`Reason`].
+    /// step's move is not allowed (15), the number of its [`Reason`]; if a
+    /// list is faulty (19, 20), the place of the configuration.
     pub row: u16,
+    /// The configuration at which a list is faulty (19, 20), as
+    /// [`check`](crate::check) gives it; else none.
+    pub at: Option<Configuration>,
     /// The rounds made, if there is no bridge (11); else 0.
     pub rounds: u64,
 }
 
 impl Refusal {
     /// The refusal in a packed number, if it is one: what [`packed::build`],
-    /// [`packed::ask`] or [`packed::why`] returned.
+    /// [`packed::ask`], [`packed::why`] or [`packed::check`] returned. The
+    /// number of a faulty list has the place alone, and no configuration.
     ///
     /// ```
     /// use bridge::{packed, Refusal};
@@ -70,6 +75,7 @@ impl Refusal {
             number: packed::number(number),
             side,
             row: packed::row(number),
+            at: None,
             rounds,
         })
     }
@@ -80,6 +86,19 @@ impl Refusal {
             None => 0,
             Some(Side::Writer) => 1,
             Some(Side::Reader) => 2,
+        }
+    }
+
+    /// Is it about a configuration of a list, with its place as row?
+    pub(crate) fn is_at_place(&self) -> bool {
+        matches!(self.number, 19 | 20)
+    }
+
+    /// Where a list is faulty.
+    fn place(&self) -> String {
+        match self.at {
+            None => format!("place {}", self.row),
+            Some(at) => at.to_string(),
         }
     }
 
@@ -128,6 +147,16 @@ impl fmt::Display for Refusal {
             13 => write!(f, "there is no such configuration")?,
             15 => write!(f, "{}", self.not_allowed())?,
             17 => write!(f, "the rule is above 1")?,
+            18 => write!(
+                f,
+                "the list is not of version 1, has fewer than 3 bytes, or has a length field that is not that of its bytes or of the configurations"
+            )?,
+            19 => write!(
+                f,
+                "the list permits a bad move at {}: a side has no row for it, or some outcome overflows or underflows the buffer",
+                self.place()
+            )?,
+            20 => write!(f, "the list has no way to finish from {}", self.place())?,
             _ => write!(f, "{} {}", self.whose(), self.fault())?,
         }
         let (number, side, row) = (self.number, self.side_number(), self.row);

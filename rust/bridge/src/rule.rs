@@ -49,6 +49,12 @@ pub enum Rule {
 }
 
 impl Rule {
+    /// The rule of a number, 0 or 1.
+    pub fn of(number: u64) -> Option<Rule> {
+        let mut all = [Rule::Registered, Rule::FlowThrough].into_iter();
+        all.find(|rule| rule.number() == number)
+    }
+
     /// The rule's number, as the entry points take it: 0 registered, 1
     /// flow-through.
     pub fn number(self) -> u64 {

@@ -4,7 +4,8 @@
 mod compare;
 
 use bridge::Rule::{FlowThrough, Registered};
-use bridge::{ask, build, why, Built, Configuration, Moves, Reason, Refusal, Rule};
+use bridge::{ask, build, check, why};
+use bridge::{Built, Configuration, Moves, Permissions, Reason, Refusal, Rule};
 use compare::Compared;
 use inputs::Pair;
 use second::worked::*;
@@ -65,6 +66,7 @@ fn no_bridge(rounds: u64) -> Refusal {
         number: 11,
         side: None,
         row: 0,
+        at: None,
         rounds,
     }
 }
@@ -221,4 +223,162 @@ fn reasons_in_words() {
 /// The words of a step's refusal with this row.
 fn refused_step(row: u64) -> String {
     Refusal::of(15 + (row << 16)).unwrap().to_string()
+}
+
+#[test]
+fn numbers_of_rules() {
+    for rule in [Registered, FlowThrough] {
+        assert_eq!(Rule::of(rule.number()), Some(rule));
+    }
+    for number in inputs::NO_RULES {
+        assert_eq!(Rule::of(number), None);
+    }
+}
+
+/// Pair A at bound 1, of which the list permits these sets.
+fn list_of_a(sets: [u64; 8]) -> Permissions {
+    let mut list = Permissions::none(&A_WRITER, &A_READER, 1).unwrap();
+    list.sets_mut().copy_from_slice(&sets.map(Moves::from_bits));
+    list
+}
+
+fn check_a(rule: Rule, sets: [u64; 8]) -> Result<(), Refusal> {
+    check(&A_WRITER, &A_READER, 1, rule, &list_of_a(sets).bytes())
+}
+
+/// The words of a refused list, the same under both rules.
+fn words_of_a(sets: [u64; 8]) -> String {
+    let says = |rule| check_a(rule, sets).unwrap_err().to_string();
+    assert_eq!(says(Registered), says(FlowThrough));
+    says(Registered)
+}
+
+const BAD: &str = "a side has no row for it, or some outcome overflows or underflows the buffer";
+
+#[test]
+fn lists() {
+    // Put at place 0, take at 5, finished at 6; held at each.
+    assert_eq!(check_a(Registered, [257, 0, 0, 0, 0, 3, 1, 0]), Ok(()));
+    // What it permits where it never is.
+    let elsewhere = [257, 9, 9, 9, 9, 3, 1, 9];
+    assert_eq!(check_a(FlowThrough, elsewhere), Ok(()));
+    // From side to side in one cycle.
+    let passes = [1 << 9, 0, 0, 0, 0, 0, 0, 0];
+    assert_eq!(check_a(FlowThrough, passes), Ok(()));
+    let refusal = check_a(Registered, passes).unwrap_err();
+    let expected = Refusal {
+        number: 19,
+        side: None,
+        row: 0,
+        at: Some(at(0, 0, 0)),
+        rounds: 0,
+    };
+    assert_eq!(refusal, expected);
+}
+
+/// README's example: a bridge that never waits, and three that differ from it
+/// in one set. The rule makes no difference.
+#[test]
+fn lists_of_the_readme() {
+    let never_waits = [1 << 8, 0, 0, 0, 0, 1 << 1, 0, 0];
+    let bytes = list_of_a(never_waits).bytes();
+    assert_eq!(bytes.len(), 67);
+    assert_eq!(bytes[..11], [1, 0, 0x40, 0, 0, 0, 0, 0, 0, 1, 0]);
+    assert_eq!(bytes[43..51], [0, 0, 0, 0, 0, 0, 0, 2]);
+
+    for rule in [Registered, FlowThrough] {
+        assert_eq!(check_a(rule, never_waits), Ok(()));
+        let with = |place: usize, set: u64| {
+            let mut sets = never_waits;
+            sets[place] = set;
+            check_a(rule, sets).map_err(|refusal| (refusal.number, refusal.row))
+        };
+        assert_eq!(with(0, 1 << 8 | 1 << 1), Err((19, 0)));
+        assert_eq!(with(5, 0), Err((20, 0)));
+        assert_eq!(with(2, 1 << 1), Ok(()));
+    }
+}
+
+#[test]
+fn lists_in_words() {
+    // A letter that the writer has no row for, while an item is held.
+    assert_eq!(
+        words_of_a([257, 0, 0, 0, 0, 3 + 256, 1, 0]),
+        format!("the list permits a bad move at writer state 1, reader state 0, level 1: {BAD} (refusal 19, side 0, row 5)")
+    );
+    // The item is never handed over; the start has no way then either.
+    assert_eq!(
+        words_of_a([257, 0, 0, 0, 0, 1, 1, 0]),
+        "the list has no way to finish from writer state 0, reader state 0, level 0 (refusal 20, side 0, row 0)"
+    );
+    // By flow-through the start has another way, but not who takes the item.
+    let refusal = check_a(FlowThrough, [257 + 512, 0, 0, 0, 0, 1, 1, 0]).unwrap_err();
+    assert_eq!((refusal.number, refusal.at), (20, Some(at(1, 0, 1))));
+    assert_eq!(
+        refusal.to_string(),
+        "the list has no way to finish from writer state 1, reader state 0, level 1 (refusal 20, side 0, row 5)"
+    );
+    // A packed number alone has the place.
+    assert_eq!(
+        Refusal::of(19 + (4_095 << 16)).unwrap().to_string(),
+        format!("the list permits a bad move at place 4095: {BAD} (refusal 19, side 0, row 4095)")
+    );
+    assert_eq!(
+        Refusal::of(20).unwrap().to_string(),
+        "the list has no way to finish from place 0 (refusal 20, side 0, row 0)"
+    );
+}
+
+/// Bytes that are no list for the pair, and a pair that is none.
+#[test]
+fn lists_that_are_none() {
+    let list = Permissions::none(&A_WRITER, &A_READER, 2).unwrap().bytes();
+    let wrong = [&list[..], &list[..2], &list[..1], &[], &[2, 0, 64]];
+    for list in wrong {
+        let refusal = check(&A_WRITER, &A_READER, 1, Registered, list).unwrap_err();
+        assert_eq!(refusal.at, None);
+        assert_eq!(
+            refusal.to_string(),
+            "the list is not of version 1, has fewer than 3 bytes, or has a length field that is not that of its bytes or of the configurations \
+             (refusal 18, side 0, row 0)"
+        );
+        let refusal = check(&A_WRITER, &A_READER, 16, Registered, list).unwrap_err();
+        assert_eq!((refusal.number, refusal.at), (9, None));
+        let refusal = check(&A_WRITER, &A_WRITER, 1, Registered, list).unwrap_err();
+        assert_eq!((refusal.number, refusal.side_number()), (4, 2));
+    }
+}
+
+#[test]
+fn permissions() {
+    let mut kept = [0; 9];
+    build(&C_WRITER, &C_READER, 2, Registered, &mut kept).unwrap();
+    let own = Permissions::allowed(&C_WRITER, &C_READER, 2, Registered, &kept).unwrap();
+    assert_eq!(own[at(0, 0, 1)].bits(), 515);
+    let list = own.bytes();
+    assert_eq!(list[..3], [1, 0, 72]);
+    assert_eq!(list[3 + 8..3 + 16], [0, 0, 0, 0, 0, 0, 2, 3]);
+    assert_eq!(check(&C_WRITER, &C_READER, 2, Registered, &list), Ok(()));
+
+    let mut other = Permissions::none(&C_WRITER, &C_READER, 2).unwrap();
+    assert_eq!(other.sets(), [Moves::default(); 9]);
+    for (place, at) in [(0, at(0, 0, 0)), (5, at(1, 0, 2)), (7, at(2, 0, 1))] {
+        other[at] = Moves::from_bits(1 << place);
+        assert_eq!(other.sets()[place].bits(), 1 << place);
+    }
+    assert_eq!(
+        Permissions::none(&C_WRITER, &C_READER, 16)
+            .unwrap_err()
+            .number,
+        9
+    );
+    let refused = Permissions::allowed(&C_WRITER, &C_READER, 2, Registered, &[1; 8]);
+    assert_eq!(refused.unwrap_err().number, 10);
+}
+
+#[test]
+#[should_panic(expected = "the pair has no configuration writer state 0, reader state 1, level 0")]
+fn permissions_elsewhere() {
+    let mut list = Permissions::none(&C_WRITER, &C_READER, 2).unwrap();
+    list[at(0, 1, 0)] = Moves::from_bits(1);
 }

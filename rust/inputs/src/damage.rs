@@ -97,7 +97,7 @@ fn wrong_length(random: &mut Random, table: &mut Vec<u8>) {
 }
 
 /// Sets the length field to the true count of bytes.
-fn set_length(table: &mut [u8]) {
+pub(crate) fn set_length(table: &mut [u8]) {
     let length = table.len() - 3;
     table[1] = (length / 256) as u8;
     table[2] = (length % 256) as u8;

@@ -2,7 +2,8 @@
 //!
 //! All of them are deterministic from a seed that a test prints, so that a
 //! failure can be met again. Nothing here reads or builds: this crate knows
-//! the layout of a protocol table and nothing else of document 01.
+//! the layout of a protocol table and of a permission list, and nothing else
+//! of documents 01 and 02.
 
 #![forbid(unsafe_code)]
 #![warn(missing_docs)]
@@ -10,6 +11,7 @@
 pub mod damage;
 pub mod limits;
 pub mod listings;
+pub mod lists;
 pub mod many_rounds;
 pub mod pairs;
 pub mod questions;
@@ -19,9 +21,10 @@ pub mod tables;
 pub use damage::{damaged_pair, damaged_table, prefixes, single_changes};
 pub use limits::{buffers, limit_moves, limits, patterned, Call};
 pub use listings::listing_input;
+pub use lists::{list_bytes, longest_way, moves_past_letters, random_sets, thinned, wrong_lists};
 pub use many_rounds::{many_rounds, ManyRounds, MANY_ROUNDS};
-pub use pairs::{chains, clocks, large_pair, long_way, many_moves_pair, small_pair, Pair};
-pub use pairs::{FLOW_THROUGH, NO_RULES, REGISTERED, RULES};
+pub use pairs::{all_kept, chains, clocks, large_pair, long_way, many_moves_pair, small_pair};
+pub use pairs::{Pair, FLOW_THROUGH, NO_RULES, REGISTERED, RULES};
 pub use questions::{configuration, cycle, kept_bytes, kept_set, letters, run, Cycle, Run};
 pub use random::Random;
 pub use tables::Parts;

@@ -325,6 +325,26 @@ fn large_side(random: &mut Random, role: u8, letters: u8) -> Parts {
     side
 }
 
+/// Sides of 16 states with four letters in each: hold, two ways on, and an
+/// item. At a bound of 15 every one of the 4,096 configurations is kept.
+pub fn all_kept(rule: u64) -> Pair {
+    let side = |role| Parts {
+        role,
+        states: 16,
+        start: 0,
+        finish: 15,
+        letters: 4,
+        rows: (0..64).map(|i| four_letters(i / 4, i % 4)).collect(),
+    };
+    Pair::of(&side(1), &side(2), 15, rule)
+}
+
+fn four_letters(state: u8, letter: u8) -> [u8; 5] {
+    let item = u8::from(letter == 3);
+    let on = [0, 1, 5, 0][usize::from(letter)];
+    [state, letter, 0, item, (state + on) % 16]
+}
+
 /// Chains of 16 by 16 states at bound 15: one row a state on each side,
 /// leading along, upward or downward on each side, with no items, with an
 /// item in each row, in every second, or in the last rows only. The last

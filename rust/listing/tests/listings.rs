@@ -1,8 +1,8 @@
 //! The text of the listing program against the second builder's.
 
 use inputs::listings::joined;
-use inputs::{chains, clocks, hex, large_pair, limits, listing_input, long_way, small_pair};
-use inputs::{Pair, Random, FLOW_THROUGH, REGISTERED, RULES};
+use inputs::{all_kept, chains, clocks, hex, large_pair, limits, listing_input, long_way};
+use inputs::{small_pair, Pair, Random, FLOW_THROUGH, REGISTERED, RULES};
 use listing::{printed, printed_in_parts};
 use std::collections::{BTreeMap, BTreeSet};
 
@@ -183,26 +183,6 @@ fn full_size() {
         assert_eq!(all.lines().count(), 1 + 4096);
     }
     println!("longest random listing: {longest} lines");
-}
-
-/// A side of 16 states with four letters in each: hold, two ways on, and an
-/// item. At a bound of 15 every one of the 4,096 configurations is kept.
-fn all_kept(rule: u64) -> Pair {
-    let side = |role| inputs::Parts {
-        role,
-        states: 16,
-        start: 0,
-        finish: 15,
-        letters: 4,
-        rows: (0..64).map(|i| four_letters(i / 4, i % 4)).collect(),
-    };
-    Pair::of(&side(1), &side(2), 15, rule)
-}
-
-fn four_letters(state: u8, letter: u8) -> [u8; 5] {
-    let item = u8::from(letter == 3);
-    let on = [0, 1, 5, 0][usize::from(letter)];
-    [state, letter, 0, item, (state + on) % 16]
 }
 
 /// One state a side that has all eight letters: a line of 64 moves.

@@ -1,10 +1,11 @@
 //! The independent second builder.
 //!
 //! Everything here is written from the customer's document 01 and requests a
-//! and b of document 02 alone (the call `why` from what docs/DECISIONS.md says
-//! of it), and by another algorithm than marking sweeps over places: `build` makes a graph of configurations and moves once, and
-//! in each round walks it backwards, breadth-first from the finish (see
-//! [`mod@builder`]).
+//! to c of document 02 alone (the call `why` from what docs/DECISIONS.md says
+//! of it), and by another algorithm than marking sweeps over places: `build`
+//! makes a graph of configurations and moves once, and in each round walks it
+//! backwards, breadth-first from the finish (see [`mod@builder`]); `check`
+//! walks the graph of a list forwards and backwards (see [`mod@check`]).
 //!
 //! Quoted sentences in the comments are those of document 01 and of the
 //! requests, word for word.
@@ -13,6 +14,7 @@
 #![warn(missing_docs)]
 
 pub mod builder;
+pub mod check;
 pub mod kept;
 pub mod listing;
 pub mod pair;
@@ -25,6 +27,7 @@ pub mod why;
 pub mod worked;
 
 pub use builder::{build, Built};
+pub use check::{check, Checked, Permitted, Standing};
 pub use kept::Kept;
 pub use listing::listing;
 pub use pair::{Configuration, Pair};

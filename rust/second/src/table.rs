@@ -24,11 +24,12 @@ impl Side {
 /// A refusal by number, with "Side, row" as the table of refusals gives them.
 #[derive(Clone, Copy, Debug, PartialEq, Eq)]
 pub struct Refusal {
-    /// The refusal's number, 1 to 17.
+    /// The refusal's number, 1 to 20.
     pub number: u64,
     /// 0 for no side, else 1 or 2.
     pub side: u64,
-    /// "Rows count from 0." At 15 the number of the reason.
+    /// "Rows count from 0." At 15 the number of the reason, at 19 and 20 the
+    /// place.
     pub row: u64,
 }
 

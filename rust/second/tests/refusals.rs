@@ -2,8 +2,8 @@
 //! in the lent buffer after each.
 
 use second::worked::*;
-use second::{ask, begin, build, read, step, why};
-use second::{Built, Configuration, Cycle, Explained, Refusal, Run, Side};
+use second::{ask, begin, build, check, read, step, why};
+use second::{Built, Checked, Configuration, Cycle, Explained, Refusal, Run, Side};
 
 /// Both rules.
 const RULES: [u64; 2] = [0, 1];
@@ -90,7 +90,7 @@ fn asked_of_a(bound: u64, rule: u64, kept: &[u8], at: Configuration) -> (u64, u6
     asked(&A_WRITER, &A_READER, bound, rule, kept, at)
 }
 
-/// Build, ask, why and step refuse this writer's table so.
+/// Build, ask, why, step and check refuse this writer's table so.
 fn refused_under(rule: u64, table: &[u8], (number, side, row): (u64, u64, u64)) {
     let mut buffer = [0xEE; 4096];
     let built = build(table, &C_READER, 2, rule, &mut buffer);
@@ -114,6 +114,9 @@ fn refused_under(rule: u64, table: &[u8], (number, side, row): (u64, u64, u64)) 
         (number, side, row)
     );
     assert_eq!((stepped.run, stepped.item, stepped.mark), (run, 0, 0));
+
+    let checked = check(table, &C_READER, 2, rule, &[]);
+    assert_eq!(checked, Checked { number, side, row });
 }
 
 /// A configuration that is nowhere in range.

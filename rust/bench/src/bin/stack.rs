@@ -2,14 +2,18 @@
 //! that is painted before, and what is no longer paint afterwards was used.
 //! `cargo run --profile fast --offline -p bench --bin stack`; x86-64 only.
 
-use bridge::{packed, Configuration};
-use inputs::{chains, damaged_pair, large_pair, limits, many_rounds, small_pair};
-use inputs::{Pair, Random, RULES};
+use bench::own::own_list;
+use bridge::{packed, Configuration, Permissions};
+use inputs::{all_kept, chains, damaged_pair, large_pair, limits, list_bytes, long_way};
+use inputs::{many_rounds, random_sets, small_pair, Pair, Random, RULES};
 use std::arch::asm;
 use std::cell::RefCell;
 
 const PAINT: u8 = 0xA5;
 const SIZE: usize = 64 * 1024;
+
+/// What a call may need.
+const LIMIT: usize = 6_144;
 
 #[repr(align(64))]
 struct Stack([u8; SIZE]);
@@ -17,7 +21,8 @@ struct Stack([u8; SIZE]);
 /// What the next call is to do.
 struct Call {
     pair: Pair,
-    kept: Vec<u8>,
+    /// The buffer, the kept bytes or the list.
+    lent: Vec<u8>,
     what: What,
 }
 
@@ -28,6 +33,7 @@ enum What {
     Ask,
     AskSet,
     Why,
+    Check,
 }
 
 thread_local! {
@@ -47,20 +53,21 @@ extern "C" fn make() {
         };
         match call.what {
             What::Nothing => 0,
-            What::Build => packed::build(writer, reader, bound, rule, &mut call.kept),
-            What::Ask => packed::ask(writer, reader, bound, rule, &call.kept, at),
-            What::AskSet => packed::ask_set(writer, reader, bound, rule, &call.kept, at),
-            What::Why => packed::why(writer, reader, bound, rule, &call.kept, at, (0, 0)),
+            What::Build => packed::build(writer, reader, bound, rule, &mut call.lent),
+            What::Ask => packed::ask(writer, reader, bound, rule, &call.lent, at),
+            What::AskSet => packed::ask_set(writer, reader, bound, rule, &call.lent, at),
+            What::Why => packed::why(writer, reader, bound, rule, &call.lent, at, (0, 0)),
+            What::Check => packed::check(writer, reader, bound, rule, &call.lent),
         };
     });
 }
 
 /// Bytes of stack that the call used.
-fn used(stack: &mut Stack, pair: &Pair, kept: &[u8], what: What) -> usize {
+fn used(stack: &mut Stack, pair: &Pair, lent: &[u8], what: What) -> usize {
     CALL.with_borrow_mut(|call| {
         *call = Some(Call {
             pair: pair.clone(),
-            kept: kept.to_vec(),
+            lent: lent.to_vec(),
             what,
         })
     });
@@ -97,11 +104,36 @@ fn pairs() -> Vec<Pair> {
         pairs.extend(chains(rule));
         pairs.extend(many.filter(|pair| pair.count() < 500));
         pairs.extend((0..20).map(|_| large_pair(&mut random, 4, rule)));
+        pairs.extend([false, true].map(|upward| long_way(15, upward, rule)));
+        pairs.push(all_kept(rule));
         pairs.extend((0..1000).map(|_| small_pair(&mut random, rule)));
     }
     pairs.extend((0..1000).map(|_| damaged_pair(&mut random)));
     pairs.extend(limits().into_iter().map(|call| call.pair));
     pairs
+}
+
+/// The lists that are measured for a pair: those of its own sets, of all moves
+/// everywhere, of any moves, and wrong ones.
+fn lists(random: &mut Random, pair: &Pair) -> Vec<Vec<u8>> {
+    let mut lists = vec![Vec::new(), list_bytes(&[u64::MAX; 4096])];
+    if Permissions::none(&pair.writer, &pair.reader, pair.bound).is_ok() {
+        lists.push(list_bytes(&vec![u64::MAX; pair.count()]));
+        lists.push(list_bytes(&random_sets(random, pair)));
+        lists.extend(own_list(pair));
+    }
+    lists
+}
+
+/// Prints the most that a call used, less what calling it takes.
+fn report(name: &str, uses: &[usize], of: &str, own: usize) {
+    let most = *uses.iter().max().expect("there are calls");
+    println!(
+        "{name}: at most {} bytes of stack over {} {of} ({most} with the caller's {own})",
+        most - own,
+        uses.len()
+    );
+    assert!(most - own <= LIMIT, "more than {LIMIT} bytes");
 }
 
 fn main() {
@@ -115,15 +147,15 @@ fn main() {
         ("bridge_ask_set", What::AskSet),
         ("bridge_why", What::Why),
     ] {
-        let most = pairs
-            .iter()
-            .map(|pair| used(&mut stack, pair, &kept, what))
-            .max();
-        let most = most.expect("there are pairs");
-        println!(
-            "{name}: at most {} bytes of stack over {} pairs ({most} with the caller's {own})",
-            most - own,
-            pairs.len()
-        );
+        let uses = pairs.iter().map(|pair| used(&mut stack, pair, &kept, what));
+        report(name, &Vec::from_iter(uses), "pairs", own);
     }
+    let mut random = Random::new(5);
+    let mut uses = Vec::new();
+    for pair in &pairs {
+        for list in lists(&mut random, pair) {
+            uses.push(used(&mut stack, pair, &list, What::Check));
+        }
+    }
+    report("bridge_check", &uses, "lists", own);
 }

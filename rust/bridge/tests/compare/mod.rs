@@ -5,7 +5,7 @@
 // Each test file uses a part of this one.
 #![allow(dead_code)]
 
-use bridge::{packed, Configuration};
+use bridge::{packed, Configuration, Rule};
 use inputs::{hex, hex_pair, Pair};
 use std::collections::BTreeMap;
 
@@ -93,6 +93,23 @@ impl Compared {
         number
     }
 
+    /// Both answers for a list; the wrapper has to say the same in words.
+    pub fn check(&mut self, pair: &Pair, list: &[u8]) -> second::Checked {
+        let (writer, reader) = (&pair.writer[..], &pair.reader[..]);
+        let number = packed::check(writer, reader, pair.bound, pair.rule, list);
+        let checked = second::check(writer, reader, pair.bound, pair.rule, list);
+        if number != checked.packed() || !is_said(pair, list, checked) {
+            panic!(
+                "check differs on\n{}\nlist: {}\nproved: {number:#x}\nsecond: {:#x}",
+                hex_pair(pair),
+                hex(list),
+                checked.packed()
+            );
+        }
+        self.meet(("check", pair.rule, checked.number, checked.side, 0));
+        checked
+    }
+
     /// Ask, and why for all 64 moves, at a configuration: the moves of reason 0
     /// are ask's.
     pub fn every_move(&mut self, pair: &Pair, kept: &[u8], at: At) {
@@ -170,6 +187,25 @@ impl Compared {
             println!("  {call} under {rule}: {number} side {side} reason {reason}: {count}");
         }
     }
+}
+
+/// Does the wrapper say this of a list, and name the configuration of a faulty
+/// place? It takes no number that is no rule.
+fn is_said(pair: &Pair, list: &[u8], checked: second::Checked) -> bool {
+    let Some(rule) = Rule::of(pair.rule) else {
+        return true;
+    };
+    let said = bridge::check(&pair.writer, &pair.reader, pair.bound, rule, list);
+    let Err(refusal) = said else {
+        return checked.number == 0;
+    };
+    let at = match checked.number {
+        19 | 20 => configurations(pair).nth(checked.row as usize).map(ours),
+        _ => None,
+    };
+    let (side, row) = (refusal.side_number().into(), refusal.row.into());
+    (u64::from(refusal.number), side, row) == (checked.number, checked.side, checked.row)
+        && refusal.at == at
 }
 
 /// Every configuration of a good pair.

@@ -89,15 +89,22 @@ def table():
     return {n: m for n, m in sorted(names.items()) if n != m}
 
 
+def theirs(text):
+    """What a file imports from the kit's own libraries: those names are not ours."""
+    lists = re.findall(r"^use (?:mathlib|lib|borrow|native|Prim)[\w.]*\.\{([^}]*)\}", text, re.M)
+    return {n.strip() for names in lists for n in names.split(",")}
+
+
 def main(argv):
     names = table()
     if argv:
         print("\n".join(f"{n} {m}" for n, m in names.items()))
         return 0
     for path in files(".antt", ".rt", ".edit"):
-        here = names | IN_FILES.get(path, {})
         with open(path, encoding="utf-8") as f:
             old = f.read()
+        kept = theirs(old)
+        here = {n: m for n, m in (names | IN_FILES.get(path, {})).items() if n not in kept}
         new = TOKEN.sub(lambda m: here.get(m.group(0), m.group(0)), old)
         if new != old:
             with open(path, "w", encoding="utf-8") as f:

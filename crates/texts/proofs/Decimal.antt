@@ -4,7 +4,7 @@ use native.Mathlib.Nat.{le_refl}
 use native.Mathlib.Omega.{arith}
 use mathlib.Core.Path.{◌≡◌, refl, sym, ap, subst, ◌∙◌}
 use mathlib.Core.Logic.{◌⊎◌, inl, inr}
-use mathlib.Core.Bool.{true, ◌&&◌, and_true, and_assoc}
+use mathlib.Core.Bool.{true, ◌&&◌, and-true, and_assoc}
 use mathlib.Core.List.{List, [], ◌∷◌, ◌++◌}
 use lib.ListN.{length, get_or, take, length-append, length-take}
 use lib.Seq.{take-suc, take_all}
@@ -23,7 +23,7 @@ module _ (d : ℕ) where
   value_snoc (x ∷ l) v = value_snoc l (10 * v + (x - 48))
 
   all_snoc : (l : List ℕ) → all is_digit (l ++ (d ∷ [])) ≡ (all is_digit l && is_digit d)
-  all_snoc [] = and_true (is_digit d)
+  all_snoc [] = and-true (is_digit d)
   all_snoc (x ∷ l) = rw (all_snoc l) (sym (and_assoc (is_digit x) (all is_digit l) (is_digit d)))
 
   all_front : (l : List ℕ) → T (all is_digit (l ++ (d ∷ []))) → T (all is_digit l)

@@ -1,5 +1,7 @@
 // Entry points for the generator: build, ask, why and check on byte slices and numbers, each returning one 64-bit number.
 // Document 01, "The calls and what they return"; why is request b's, check is request c's.
+#![tactic(auto)]
+
 ghost use Rattle.std.specs.Prelude.{◌≡◌, ◌<◌, ◌^◌};
 ghost use Rattle.rules.specs.Configurations.{conf_with};
 ghost use Rattle.calls.specs.Call.{call_of};

@@ -1,5 +1,7 @@
 // What a reader believes of the calls, in specs/: what each takes, returns, refuses and leaves; walks and points of a run; packed numbers.
 // proofs/ has what follows from it. This crate has the structs that the definitions and the code share, and no code.
+#![tactic(auto)]
+
 use format::Verdict;
 
 #[derive(Drop)]

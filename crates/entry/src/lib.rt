@@ -1,4 +1,6 @@
 // What every call does first: read both tables, test the bound and the rule; and the tests of kept bytes that ask, why and step share.
+#![tactic(auto)]
+
 ghost use Rattle.std.specs.Prelude.{◌≡◌, ◌∷◌, [], ◌≤◌, length};
 ghost use Rattle.format.specs.Verdicts.{verdict_of, and_then};
 ghost use Rattle.calls.specs.Call.{rule_of, call_of};

@@ -1,5 +1,6 @@
 // What a reader believes of the byte format, in specs/: a table in bytes and in hand, refusals 1 to 8, what reading gives.
 // proofs/ has what follows from it. This crate has the structs that the definitions and the code share, and no code.
+#![tactic(auto)]
 
 // One of two cases: no third can be passed.
 #[derive(Drop)]

@@ -1,5 +1,7 @@
 // The lines of the listing, each into a lent buffer, and the cut of the program's input. Numbers in, bytes out: nothing
 // here knows of tables, sets of configurations or the builder.
+#![tactic(auto)]
+
 ghost use Rattle.std.specs.Prelude.{◌+◌, ◌≤◌, ◌<◌, ◌≡◌, length, get_or};
 ghost use Rattle.texts.specs.Text.{move_text, bit_text, moves_below, first_line, conf_line, refusal_line};
 ghost use Rattle.texts.specs.Written.{Written};

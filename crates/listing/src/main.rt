@@ -1,4 +1,6 @@
 // The listing: document 01, "The listing", as request a amends it. It reads, and writes what `pages` gives; with no input it lists the worked pairs.
+#![tactic(auto)]
+
 use libc::{STDIN_FILENO, STDOUT_FILENO};
 use worked::{A_BOUNDS, A_READER, A_WRITER, C_BOUNDS, C_READER, C_WRITER, REGISTERED};
 

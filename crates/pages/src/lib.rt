@@ -1,5 +1,7 @@
 // The listing of one pair, a line at a time into a lent buffer: its first line or its refusal, and the line of each place.
 // A program can only be proved to be safe, not to print the right bytes, so whatever decides the bytes is here.
+#![tactic(auto)]
+
 ghost use Rattle.std.specs.Prelude.{◌≡◌, ◌≤◌, ◌<◌};
 ghost use Rattle.format.specs.Verdicts.{verdict_of};
 ghost use Rattle.format.specs.declared.Verdict.TheVariants.{Fine};

@@ -1,5 +1,7 @@
 // A permission list in bytes, read in place: refusal 18, the set of moves that a place permits, and one move of it. Request c.
 // `check_list` takes any bytes. The others assume that the bytes of the place are there, and say so in their `requires`.
+#![tactic(auto)]
+
 ghost use Rattle.std.specs.Prelude.{◌≡◌, ◌∷◌, [], ◌+◌, ◌*◌, ◌≤◌, ◌<◌, length};
 ghost use Rattle.lists.specs.Masks.{has_bit};
 ghost use Rattle.format.specs.Verdicts.{verdict_of};

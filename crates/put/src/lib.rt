@@ -1,5 +1,7 @@
 // Pieces of a line into a lent buffer: each put stores a piece from a place on, and answers the place behind it. The
 // buffer is a slice here: lending an array as a slice is what tells its length.
+#![tactic(auto)]
+
 ghost use Rattle.std.specs.Prelude.{◌+◌, ◌≤◌, ◌<◌, ◌≡◌, [], ◌∷◌, ◌++◌, length};
 ghost use Rattle.texts.specs.Text.{decimal, line_end};
 ghost use Rattle.put.specs.Piece.{Put};

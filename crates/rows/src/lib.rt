@@ -1,5 +1,7 @@
 // The rows of a table in bytes: reading one, and refusals 7 and 8. Document 01, "A protocol table, in bytes".
 // The functions assume that the bytes of the rows they look at are there, and say so in their `requires`.
+#![tactic(auto)]
+
 ghost use Rattle.std.specs.Prelude.{◌≡◌, ◌+◌, ◌*◌, ◌≤◌, length};
 ghost use Rattle.lists.specs.Search.{first};
 ghost use Rattle.format.specs.Verdicts.{verdict_of};

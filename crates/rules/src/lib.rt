@@ -1,6 +1,8 @@
 // What a reader believes of the rules, in specs/: configurations, moves, the largest correct set, rounds, kept bytes and other bridges, over
 // two tables in hand, a bound and a rule. specs/Tools/ computes the same and need not be believed. proofs/ has what follows.
 // This crate has the structs that the definitions and the code share, and no code.
+#![tactic(auto)]
+
 use format::Table;
 
 // "A rule number chooses: 0 registered (the old tests), 1 flow-through" (request a).

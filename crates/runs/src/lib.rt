@@ -1,4 +1,6 @@
 // A run with real items: the calls begin and step. Document 01, "The calls and what they return". Neither writes lent memory.
+#![tactic(auto)]
+
 ghost use Rattle.std.specs.Prelude.{◌≡◌, not, ◌||◌, ℕ};
 ghost use Rattle.lists.specs.Search.{some};
 ghost use Rattle.format.specs.Verdicts.{verdict_of};

@@ -1,5 +1,7 @@
 // Text and numbers on standard output, for the programs that run the calls on worked and damaged inputs. No contract can say what is
 // written: these are proved to be safe and to end, and what a program prints is compared with its file stdout.
+#![tactic(auto)]
+
 use format::Verdict;
 use libc::STDOUT_FILENO;
 

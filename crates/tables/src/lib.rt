@@ -1,5 +1,7 @@
 // Reading and checking a protocol table: document 01, "A protocol table, in bytes", and refusals 1 to 8.
 // `read` takes any bytes. The functions below it assume what the checks before them showed, and say so in their `requires`.
+#![tactic(auto)]
+
 ghost use Rattle.std.specs.Prelude.{◌≡◌, ◌+◌, ◌*◌, ◌≤◌, length};
 ghost use Rattle.format.specs.Verdicts.{side_number, verdict_of};
 ghost use Rattle.format.specs.Format.{rows_in, rows_of, table_of};

@@ -1,4 +1,6 @@
 // A cycle of a run, past the call's own checks: refusals 14, 15 and 16, then what the two rows do. Document 01, step.
+#![tactic(auto)]
+
 ghost use Rattle.std.specs.Prelude.{◌≡◌, ◌&&◌, [], ◌∷◌, ◌≤◌, eqb};
 ghost use Rattle.rules.specs.Tools.Computed.{is_for, row_with};
 ghost use Rattle.calls.specs.Runs.{conf_of};

@@ -1,4 +1,6 @@
 // The call why, for support: the reason of a move at a configuration, over the bytes that the caller lends. Request b of document 02.
+#![tactic(auto)]
+
 ghost use Rattle.std.specs.Prelude.{◌≡◌};
 ghost use Rattle.rules.specs.Configurations.{conf_with};
 ghost use Rattle.calls.specs.Call.{call_of};

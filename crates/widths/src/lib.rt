@@ -1,4 +1,6 @@
 // Bytes: one as a wider number, and the smaller and the larger of two.
+#![tactic(auto)]
+
 ghost use Rattle.std.specs.Prelude.{◌≡◌, ◌⊎◌, ◌≤◌, ◌<◌};
 
 // A read from a slice is passed through it, so that its range is known.

@@ -1,5 +1,7 @@
 // Document 01's worked pairs A and C as bytes, with the bounds that the listing takes and the kept bytes of cases 2 and 5, and the numbers of the
 // rules, for the programs that list and try them.
+#![tactic(auto)]
+
 pub const A_WRITER: [u8; 24] = [
     1, 0, 21, 1, 2, 0, 1, 2, 3, 0, 0, 0, 0, 0, 0, 1, 1, 1, 1, 1, 0, 0, 0, 1,
 ];

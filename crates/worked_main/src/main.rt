@@ -1,5 +1,7 @@
 // Runs each call on document 01's worked cases, on inputs at the limits and on one input for each refusal, a module for each call, and
 // prints what it answers: the file stdout has what it must print.
+#![tactic(auto)]
+
 mod asking;
 mod building;
 mod explaining;

@@ -4,7 +4,7 @@
 
 use format::Verdict;
 
-#[derive(Drop)]
+#[derive(Clone, Copy)]
 pub struct Asked {
     pub verdict: Verdict,
     pub set: u64,
@@ -13,13 +13,13 @@ pub struct Asked {
 }
 
 // The reason of a move by its number, 0 where the call is refused.
-#[derive(Drop)]
+#[derive(Clone, Copy)]
 pub struct Explained {
     pub verdict: Verdict,
     pub reason: u8,
 }
 
-#[derive(Drop)]
+#[derive(Clone, Copy)]
 pub struct Built {
     pub verdict: Verdict,
     pub kept: u64,
@@ -36,7 +36,7 @@ pub struct Run {
 }
 
 // What one cycle brings: the letters that the bridge drives, the answers that it sees, and the item that waits at the writing side.
-#[derive(Drop)]
+#[derive(Clone, Copy)]
 pub struct Cycle {
     pub writer_letter: u64,
     pub reader_letter: u64,

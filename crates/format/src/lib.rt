@@ -3,13 +3,13 @@
 #![tactic(auto)]
 
 // One of two cases: no third can be passed.
-#[derive(Drop)]
+#[derive(Clone, Copy)]
 pub enum Side {
     Writer,
     Reader,
 }
 
-#[derive(Drop)]
+#[derive(Clone, Copy)]
 pub struct Row {
     pub state: u8,
     pub drive: u8,
@@ -31,7 +31,7 @@ pub struct Table {
     pub rows: [Row; 64],
 }
 
-#[derive(Drop)]
+#[derive(Clone, Copy)]
 pub enum Verdict {
     Fine,
     Refused { number: u8, side: u8, row: u16 },

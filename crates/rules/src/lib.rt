@@ -6,7 +6,7 @@
 use format::Table;
 
 // "A rule number chooses: 0 registered (the old tests), 1 flow-through" (request a).
-#[derive(Drop)]
+#[derive(Clone, Copy)]
 pub enum Rule {
     Registered,
     FlowThrough,
@@ -22,7 +22,7 @@ pub struct Pair {
 }
 
 // A configuration: the writer's state, the reader's state, the level.
-#[derive(Drop)]
+#[derive(Clone, Copy)]
 pub struct Conf {
     pub writer: u8,
     pub reader: u8,

@@ -3,7 +3,7 @@
 #![tactic(auto)]
 
 // The writer's table is the bytes below `writer`, the reader's those from `writer` to below `reader`.
-#[derive(Drop)]
+#[derive(Clone, Copy)]
 pub struct Cut {
     pub writer: usize,
     pub reader: usize,

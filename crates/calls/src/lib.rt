@@ -27,7 +27,7 @@ pub struct Built {
 }
 
 // The two states, the level, and the held items, front first; places from the level to 15 are zero.
-#[derive(Drop)]
+#[derive(Clone, Copy)]
 pub struct Run {
     pub writer: u64,
     pub reader: u64,
@@ -45,14 +45,14 @@ pub struct Cycle {
     pub incoming: u32,
 }
 
-#[derive(Drop)]
+#[derive(Clone, Copy)]
 pub struct Begun {
     pub verdict: Verdict,
     pub run: Run,
 }
 
 // The mark counts the items returned.
-#[derive(Drop)]
+#[derive(Clone, Copy)]
 pub struct Stepped {
     pub verdict: Verdict,
     pub run: Run,

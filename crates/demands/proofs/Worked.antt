@@ -32,7 +32,7 @@ use Rattle.calls.specs.Walks.{Walked, walk}
 use Rattle.demands.specs.Cases.{Claim, built, asked, ran, Case, pair_in, marks, BuiltSays, result_of, BuildGives, returned, ended, Says, cases}
 
 module _ {A B : Type 0} where
-  at_member : (f g : A → B) {l : List A} {a : A} → map f l ≡ map g l → Memᴰ a l → f a ≡ g a
+  at_member : (f g : A → B) {a : A} {l : List A} → map f l ≡ map g l → Memᴰ a l → f a ≡ g a
   at_member f g e (Memᴰ.head {x} {xs} q) = rw q (head-eq_of_cons-eq e)
   at_member f g e (Memᴰ.tail m) = at_member f g (tail-eq_of_cons-eq e) m
 

@@ -14,7 +14,7 @@ use tables::{read, refuse};
 use widths::larger;
 
 // The pair as read stands beside the verdict; a table that was refused is zero in every field.
-#[derive(Drop)]
+#[derive(Clone, Copy)]
 pub struct Entry {
     pub pair: Pair,
     pub verdict: Verdict,

@@ -19,7 +19,7 @@ pub struct Row {
 }
 
 // A table in hand: `count` rows are used, the others are zero.
-#[derive(Drop)]
+#[derive(Clone, Copy)]
 pub struct Table {
     pub version: u8,
     pub role: u8,
@@ -38,7 +38,7 @@ pub enum Verdict {
 }
 
 // The table stands beside the verdict and not in it; a refused reading's table is zero in every field.
-#[derive(Drop)]
+#[derive(Clone, Copy)]
 pub struct Reading {
     pub table: Table,
     pub verdict: Verdict,

@@ -13,7 +13,7 @@ pub enum Rule {
 }
 
 // Two tables in hand, the bound B of the buffer between them, and the rule of its tests.
-#[derive(Drop)]
+#[derive(Clone, Copy)]
 pub struct Pair {
     pub writer: Table,
     pub reader: Table,

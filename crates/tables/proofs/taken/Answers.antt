@@ -1,0 +1,6 @@
+-- `tables::taken` meets its contract. Assumes nothing.
+
+use Rattle.tables.proofs.taken.Goals as goal
+
+pub returns : goal.returns
+returns c = rw c.fill-rows.ensures

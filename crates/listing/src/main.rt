@@ -1,7 +1,7 @@
 // The listing: document 01, "The listing", as request a amends it. It reads, and writes what `pages` gives; with no input it lists the worked pairs.
 #![tactic(auto)]
 
-ghost use Rattle.std.specs.Prelude.{◌≤◌, length, IfOk};
+ghost use Rattle.std.specs.Prelude.{◌≡◌, ◌≤◌, length, take, IfOk, IfSome};
 
 use std::io;
 use std::io::{Read, Write};
@@ -90,7 +90,8 @@ fn list_worked<W: Write>(out: &mut W) -> io::Result<()> {
 
 // Reads until the bytes are full or the input ends; the answer is how many were read.
 fn read_full<R: Read>(input: &mut R, bytes: &mut [u8]) -> io::Result<usize>
-    ensures { IfOk result (λ n. n ≤ length bytes.new) }
+    ensures within { IfOk result (λ n. n ≤ length bytes.new) }
+    ensures first { IfOk result (λ n. IfSome (R.remaining input.old) (λ all. take n bytes.new ≡ take (length bytes.old) all)) }
 {
     let mut done = 0;
     while done < bytes.len() {

@@ -1,0 +1,26 @@
+-- `lines::put_moves` meets its contract: with m bits looked at, the moves of the bits below m stand there. Assumes nothing.
+use Rattle.texts.proofs.Moves.{moves_length}
+use Prim.Native.Nat.{◌-◌}
+use native.Mathlib.Omega.{arith}
+use mathlib.Core.Path.{◌∙◌, refl}
+use Rattle.lines.proofs.Moves.{moves_next, moves_end, moves_start}
+use Rattle.lines.proofs.put_moves.Goals as goal
+
+pub loop-m-preserved : goal.loop-m-preserved
+loop-m-preserved c =
+    let v = c.loop-m.invariant in
+    (omega arith, c.put_bit-next.auto.out ∙ v.1, moves_next _ _ v.2 c.put_bit-next.ensures)
+
+pub shape_of-out : goal.shape_of-out
+shape_of-out c = c.loop-m.invariant.1
+
+pub returns : goal.returns
+returns c =
+    let all = moves_end _ _ c.loop-m.invariant.0 c.loop-m-test.false c.loop-m.invariant.2 in
+    record { put = all.0; upper_bound = all.1 }
+
+pub loop-m-init : goal.loop-m-init
+loop-m-init c = (omega arith, refl, moves_start _ _ _)
+
+pub put_bit-next-requires : goal.put_bit-next-requires
+put_bit-next-requires c = omega (arith, c.loop-m.invariant.2.next, moves_length c.args.set c.loop-m.m)

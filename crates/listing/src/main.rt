@@ -1,7 +1,13 @@
 // The listing: document 01, "The listing", as request a amends it. It reads, and writes what `pages` gives; with no input it lists the worked pairs.
+// No contract can say what reaches standard output. So all but `main` is written over any reader and any writer, and says what it writes where the
+// two know their bytes.
 #![tactic(auto)]
 
-ghost use Rattle.std.specs.Prelude.{◌≡◌, ◌≤◌, length, take, IfOk, IfSome};
+ghost use Rattle.std.specs.Prelude.{◌≡◌, ◌≤◌, length, take, OnOk, IfOk, IfSome};
+ghost use Rattle.std.specs.Io.KnownBytes.{Appends};
+ghost use Rattle.calls.specs.Call.{call_of};
+ghost use Rattle.listings.specs.Pages.{place_text};
+ghost use Rattle.listing.specs.Printed.{call_in, places_text, Prints, PrintsHead, PrintsEach, PrintsInput, PrintsWorked};
 
 use std::io;
 use std::io::{Read, Write};
@@ -15,7 +21,10 @@ fn list_head<W: Write>(
     bound: u64,
     rule: u64,
     kept: &mut [u8],
-) -> io::Result<()> {
+) -> io::Result<()>
+    ensures { OnOk result (PrintsHead (call_of writer.now reader.now bound rule) kept.old kept.new
+        (W.contents out.old) (W.contents out.new)) }
+{
     let mut line = [0u8; 512];
     let n = pages::head(&mut line, writer, reader, bound, rule, kept);
     out.write_all(&line[..n])
@@ -29,7 +38,10 @@ fn list_place<W: Write>(
     rule: u64,
     kept: &[u8],
     p: usize,
-) -> io::Result<()> {
+) -> io::Result<()>
+    ensures { OnOk result (Appends (W.contents out.old) (W.contents out.new)
+        (place_text (call_of writer.now reader.now bound rule) kept.now p)) }
+{
     let mut line = [0u8; 512];
     let n = pages::place_line(&mut line, writer, reader, bound, rule, kept, p);
     out.write_all(&line[..n])
@@ -43,7 +55,10 @@ fn list_places<W: Write>(
     bound: u64,
     rule: u64,
     kept: &[u8],
-) -> io::Result<()> {
+) -> io::Result<()>
+    ensures { OnOk result (Appends (W.contents out.old) (W.contents out.new)
+        (places_text (call_of writer.now reader.now bound rule) kept.now (length kept.now))) }
+{
     for p in 0..kept.len() {
         list_place(out, writer, reader, bound, rule, kept, p)?;
     }
@@ -56,13 +71,18 @@ fn list<W: Write>(
     reader: &[u8],
     bound: u64,
     rule: u64,
-) -> io::Result<()> {
+) -> io::Result<()>
+    ensures { OnOk result (Prints (call_of writer.now reader.now bound rule)
+        (W.contents out.old) (W.contents out.new)) }
+{
     let mut kept = [0u8; 4096];
     list_head(out, writer, reader, bound, rule, &mut kept)?;
     list_places(out, writer, reader, bound, rule, &kept)
 }
 
-fn list_input<W: Write>(out: &mut W, input: &[u8]) -> io::Result<()> {
+fn list_input<W: Write>(out: &mut W, input: &[u8]) -> io::Result<()>
+    ensures { OnOk result (Prints (call_in input.now) (W.contents out.old) (W.contents out.new)) }
+{
     let cut = lines::cut_input(input);
     let first = cut.writer;
     let last = cut.reader;
@@ -75,7 +95,10 @@ fn list_input<W: Write>(out: &mut W, input: &[u8]) -> io::Result<()> {
     )
 }
 
-fn list_at<W: Write>(out: &mut W, writer: &[u8], reader: &[u8], bounds: &[u64]) -> io::Result<()> {
+fn list_at<W: Write>(out: &mut W, writer: &[u8], reader: &[u8], bounds: &[u64]) -> io::Result<()>
+    ensures { OnOk result (PrintsEach writer.now reader.now REGISTERED bounds.now
+        (W.contents out.old) (W.contents out.new)) }
+{
     for bound in bounds {
         list(out, writer, reader, *bound, REGISTERED)?;
     }
@@ -83,7 +106,9 @@ fn list_at<W: Write>(out: &mut W, writer: &[u8], reader: &[u8], bounds: &[u64]) 
 }
 
 // "With no input the pairs are listed under rule 0" (request a).
-fn list_worked<W: Write>(out: &mut W) -> io::Result<()> {
+fn list_worked<W: Write>(out: &mut W) -> io::Result<()>
+    ensures { OnOk result (PrintsWorked (W.contents out.old) (W.contents out.new)) }
+{
     list_at(out, &A_WRITER, &A_READER, &A_BOUNDS)?;
     list_at(out, &C_WRITER, &C_READER, &C_BOUNDS)
 }
@@ -104,12 +129,18 @@ fn read_full<R: Read>(input: &mut R, bytes: &mut [u8]) -> io::Result<usize>
     Ok(done)
 }
 
-fn main(rt: HostRuntime) -> io::Result<()> {
-    let mut out = rt.stdout();
-    let mut input = [0u8; 1024];
-    let n = read_full(&mut rt.stdin(), &mut input)?;
+// The program, on any input and output.
+fn list_all<R: Read, W: Write>(input: &mut R, out: &mut W) -> io::Result<()>
+    ensures { OnOk result (IfSome (R.remaining input.old) (λ all. PrintsInput all (W.contents out.old) (W.contents out.new))) }
+{
+    let mut bytes = [0u8; 1024];
+    let n = read_full(input, &mut bytes)?;
     if n == 0 {
-        return list_worked(&mut out);
+        return list_worked(out);
     }
-    list_input(&mut out, &input[..n])
+    list_input(out, &bytes[..n])
+}
+
+fn main(rt: HostRuntime) -> io::Result<()> {
+    list_all(&mut rt.stdin(), &mut rt.stdout())
 }

@@ -1,0 +1,6 @@
+use Rattle.std.proofs.Common.{◌≡◌, length, rules}
+use Rattle.listing.proofs.Joined.{whole}
+use Rattle.listing.proofs.list.Goals as goal
+
+pub returns : goal.returns
+returns g c = whole _ _ _ _ _ _ c.in_ok-list_head.ensures (search rules) c.list_places.ensures

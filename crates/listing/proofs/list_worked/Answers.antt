@@ -1,0 +1,5 @@
+use Rattle.listing.proofs.Joined.{both}
+use Rattle.listing.proofs.list_worked.Goals as goal
+
+pub returns : goal.returns
+returns g c = both _ _ _ _ c.in_ok-list_at.ensures c.list_at-2.ensures

@@ -1,5 +1,5 @@
 -- `reasons::look_on` meets its contract: with the moves below m looked at, the set and the last reason are theirs. Assumes nothing.
-use Prim.Native.Nat.{ℕ, ◌-◌, ◌<◌}
+use Prim.Native.Nat.{ℕ, ◌<◌}
 use native.Mathlib.Omega.{arith}
 use mathlib.Core.Path.{refl}
 use Rattle.lists.proofs.Bits.{number_below}

@@ -4,7 +4,7 @@
 -- Request a reads both with the rule named: it is a field of k, and so of the pair; another bridge is one for the same tables, bound and rule.
 -- (Demand 1 is each call's own contract, which has no `requires`: docs/PROMISES.md.)
 -- Assumes nothing. That every result of build that satisfies its contract meets the demands is proved: proofs/Demand2.antt, Demand3.antt.
-use Rattle.std.specs.Prelude.{ℕ, ◌-◌, ◌/◌, ◌%◌, ◌^◌, ◌≤◌, ◌<◌, ◌≡◌, ◌↔◌, List, take}
+use Rattle.std.specs.Prelude.{ℕ, ◌/◌, ◌%◌, ◌^◌, ◌≤◌, ◌<◌, ◌≡◌, ◌↔◌, List, take}
 use Rattle.format.specs.declared.Verdict.TheVariants.{Fine, Refused}
 use Rattle.format.specs.Verdicts.{verdict_of}
 use Rattle.rules.specs.declared.Conf.{Conf}

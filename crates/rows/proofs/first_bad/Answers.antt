@@ -1,8 +1,6 @@
 -- `rows::first_bad` meets its contract: a search from low to high for a row that has a field out of range. Assumes nothing.
-use Prim.Native.Nat.{◌-◌}
 use mathlib.Core.Path.{◌∙◌}
 use Rattle.lists.proofs.Search.{first_start, seek_hit, seek_miss, seek_end}
-use Rattle.format.specs.Reads.{bad_row}
 use Rattle.rows.proofs.first_bad.Goals as goal
 
 pub loop-i-init : goal.loop-i-init

@@ -1,8 +1,6 @@
 -- `rows::first_fall` meets its contract: a search from low to high for a row that does not rise. Assumes nothing.
-use Prim.Native.Nat.{◌-◌}
 use mathlib.Core.Path.{◌∙◌}
 use Rattle.lists.proofs.Search.{first_start, seek_hit, seek_miss, seek_end}
-use Rattle.format.specs.Reads.{fall_row}
 use Rattle.rows.proofs.first_fall.Goals as goal
 
 pub loop-i-init : goal.loop-i-init

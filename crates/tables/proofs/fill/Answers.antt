@@ -1,5 +1,4 @@
 -- `tables::fill` meets its contract: with i rows filled in, the rest is still zero. Assumes nothing.
-use Prim.Native.Nat.{◌-◌}
 use lib.ListN.{length-set}
 use borrow.Author.Rules.{rules}
 use native.Mathlib.Omega.{arith}

@@ -1,71 +1,66 @@
-// Text and numbers on standard output, for the programs that run the calls on worked and damaged inputs. No contract can say what is
-// written: these are proved to be safe and to end, and what a program prints is compared with its file stdout.
+// Text and numbers on a writer, for the programs that run the calls on worked and damaged inputs. No contract can say what reaches standard
+// output: these are proved to be safe and to end, and what a program prints is compared with its file stdout.
 #![tactic(auto)]
 
 use format::Verdict;
-use libc::STDOUT_FILENO;
+use std::io;
+use std::io::Write;
 
-pub fn text(t: &[u8]) {
-    io::write_all(STDOUT_FILENO, t);
+pub fn text<W: Write>(out: &mut W, t: &[u8]) -> io::Result<()> {
+    out.write_all(t)
 }
 
 // A byte of a line, or the next number in its place; the answer is which number is next then.
-fn piece(b: u8, numbers: &[u64], next: usize) -> usize {
+fn piece<W: Write>(out: &mut W, b: u8, numbers: &[u64], next: usize) -> io::Result<usize> {
     if b == b'%' {
         if next < numbers.len() {
-            io::print_decimal(STDOUT_FILENO, numbers[next]);
-            return next + 1;
+            write!(out, "{}", numbers[next])?;
+            return Ok(next + 1);
         }
     }
     let one = [b];
-    text(&one);
-    next
+    text(out, &one)?;
+    Ok(next)
 }
 
 // The text with the numbers, in decimal, in place of its `%`.
-pub fn line(t: &[u8], numbers: &[u64]) {
+pub fn line<W: Write>(out: &mut W, t: &[u8], numbers: &[u64]) -> io::Result<()> {
     let mut next = 0;
-    let mut i = 0;
-    while i < t.len() {
-        next = piece(t[i], numbers, next);
-        i += 1;
+    for b in t {
+        next = piece(out, *b, numbers, next)?;
     }
+    Ok(())
 }
 
-fn byte(b: u8) {
-    text(b" ");
-    io::print_decimal(STDOUT_FILENO, b as u64);
+fn byte<W: Write>(out: &mut W, b: u8) -> io::Result<()> {
+    write!(out, " {b}")
 }
 
 // Each with a space in front.
-pub fn bytes(all: &[u8]) {
-    let mut i = 0;
-    while i < all.len() {
-        byte(all[i]);
-        i += 1;
+pub fn bytes<W: Write>(out: &mut W, all: &[u8]) -> io::Result<()> {
+    for b in all {
+        byte(out, *b)?;
     }
+    Ok(())
 }
 
-fn item(n: u32) {
-    text(b" ");
-    io::print_decimal(STDOUT_FILENO, n as u64);
+fn item<W: Write>(out: &mut W, n: u32) -> io::Result<()> {
+    write!(out, " {n}")
 }
 
-pub fn items(all: &[u32]) {
-    let mut i = 0;
-    while i < all.len() {
-        item(all[i]);
-        i += 1;
+pub fn items<W: Write>(out: &mut W, all: &[u32]) -> io::Result<()> {
+    for n in all {
+        item(out, *n)?;
     }
+    Ok(())
 }
 
 // What was called, and its verdict: a word of the caller's where it is fine.
-pub fn verdict(name: &[u8], fine: &[u8], v: Verdict) {
-    text(name);
+pub fn verdict<W: Write>(out: &mut W, name: &[u8], fine: &[u8], v: Verdict) -> io::Result<()> {
+    text(out, name)?;
     let Verdict::Refused { number, side, row } = v else {
-        text(fine);
-        return;
+        return text(out, fine);
     };
     let numbers = [number as u64, side as u64, row as u64];
-    line(b": refused % side % row %,", &numbers);
+    line(out, b": refused % side % row %,", &numbers)
 }

@@ -1,5 +1,7 @@
 // The builder on cases 1 to 7 of document 01, on pairs A and C under flow-through, and on its refusals, into a buffer that is longer than N: its
 // tail has to stand.
+use std::io;
+use std::io::Write;
 use worked::{A_READER, A_WRITER, C_READER, C_WRITER, FLOW_THROUGH, REGISTERED};
 
 // One state a side, no rows.
@@ -15,68 +17,84 @@ const WAYS_WRITER: [u8; 29] = [
 
 const WAYS_READER: [u8; 14] = [1, 0, 11, 2, 1, 0, 0, 1, 1, 0, 0, 0, 0, 0];
 
-fn of(name: &[u8], writer: &[u8], reader: &[u8], bound: u64, rule: u64) {
+fn of<W: Write>(
+    out: &mut W,
+    name: &[u8],
+    writer: &[u8],
+    reader: &[u8],
+    bound: u64,
+    rule: u64,
+) -> io::Result<()> {
     let mut buffer = [7u8; 20];
     let b = build::build(writer, reader, bound, rule, &mut buffer);
     let v = b.verdict;
-    show::verdict(name, b": accepted,", v);
+    show::verdict(out, name, b": accepted,", v)?;
     let numbers = [b.kept, b.rounds];
-    show::line(b" kept % rounds %, bytes", &numbers);
-    show::bytes(&buffer);
-    show::text(b"\n");
+    show::line(out, b" kept % rounds %, bytes", &numbers)?;
+    show::bytes(out, &buffer)?;
+    show::text(out, b"\n")
 }
 
-fn of_a(writer: &[u8], reader: &[u8]) {
-    of(b"case 1, A at 0", writer, reader, 0, REGISTERED);
-    of(b"case 2, A at 1", writer, reader, 1, REGISTERED);
-    of(b"case 3, A at 2", writer, reader, 2, REGISTERED);
+fn of_a<W: Write>(out: &mut W, writer: &[u8], reader: &[u8]) -> io::Result<()> {
+    of(out, b"case 1, A at 0", writer, reader, 0, REGISTERED)?;
+    of(out, b"case 2, A at 1", writer, reader, 1, REGISTERED)?;
+    of(out, b"case 3, A at 2", writer, reader, 2, REGISTERED)
 }
 
-fn of_c(writer: &[u8], reader: &[u8]) {
-    of(b"case 4, C at 1", writer, reader, 1, REGISTERED);
-    of(b"case 5, C at 2", writer, reader, 2, REGISTERED);
+fn of_c<W: Write>(out: &mut W, writer: &[u8], reader: &[u8]) -> io::Result<()> {
+    of(out, b"case 4, C at 1", writer, reader, 1, REGISTERED)?;
+    of(out, b"case 5, C at 2", writer, reader, 2, REGISTERED)
 }
 
-fn of_bare(writer: &[u8], reader: &[u8]) {
-    of(b"case 6, bare at 0", writer, reader, 0, REGISTERED);
-    of(b"case 7, bare at 15", writer, reader, 15, REGISTERED);
+fn of_bare<W: Write>(out: &mut W, writer: &[u8], reader: &[u8]) -> io::Result<()> {
+    of(out, b"case 6, bare at 0", writer, reader, 0, REGISTERED)?;
+    of(out, b"case 7, bare at 15", writer, reader, 15, REGISTERED)
 }
 
 // Request a: "Pair C at bound 1 then keeps all 6, rounds 1".
-fn through() {
+fn through<W: Write>(out: &mut W) -> io::Result<()> {
     of(
+        out,
         b"A at 0, flow-through",
         &A_WRITER,
         &A_READER,
         0,
         FLOW_THROUGH,
-    );
+    )?;
     of(
+        out,
         b"C at 1, flow-through",
         &C_WRITER,
         &C_READER,
         1,
         FLOW_THROUGH,
-    );
+    )
 }
 
-fn refusals(writer: &[u8], reader: &[u8]) {
-    of(b"the reader as writer", reader, writer, 1, REGISTERED);
-    of(b"the writer twice", writer, writer, 1, REGISTERED);
-    of(b"bound 16", writer, reader, 16, REGISTERED);
-    of(b"bound 257", writer, reader, 257, REGISTERED);
-    of(b"bound 16, rule 2", writer, reader, 16, 2);
-    of(b"rule 2, 20 bytes for 24", writer, reader, 5, 2);
-    of(b"rule 256", writer, reader, 1, 256);
-    of(b"20 bytes for 24", writer, reader, 5, REGISTERED);
+fn refusals<W: Write>(out: &mut W, writer: &[u8], reader: &[u8]) -> io::Result<()> {
+    of(out, b"the reader as writer", reader, writer, 1, REGISTERED)?;
+    of(out, b"the writer twice", writer, writer, 1, REGISTERED)?;
+    of(out, b"bound 16", writer, reader, 16, REGISTERED)?;
+    of(out, b"bound 257", writer, reader, 257, REGISTERED)?;
+    of(out, b"bound 16, rule 2", writer, reader, 16, 2)?;
+    of(out, b"rule 2, 20 bytes for 24", writer, reader, 5, 2)?;
+    of(out, b"rule 256", writer, reader, 1, 256)?;
+    of(out, b"20 bytes for 24", writer, reader, 5, REGISTERED)
 }
 
-pub fn run() {
-    show::text(b"---- build\n");
-    of_a(&A_WRITER, &A_READER);
-    of_c(&C_WRITER, &C_READER);
-    of_bare(&BARE_WRITER, &BARE_READER);
-    of(b"two ways at 0", &WAYS_WRITER, &WAYS_READER, 0, REGISTERED);
-    through();
-    refusals(&A_WRITER, &A_READER);
+pub fn run<W: Write>(out: &mut W) -> io::Result<()> {
+    show::text(out, b"---- build\n")?;
+    of_a(out, &A_WRITER, &A_READER)?;
+    of_c(out, &C_WRITER, &C_READER)?;
+    of_bare(out, &BARE_WRITER, &BARE_READER)?;
+    of(
+        out,
+        b"two ways at 0",
+        &WAYS_WRITER,
+        &WAYS_READER,
+        0,
+        REGISTERED,
+    )?;
+    through(out)?;
+    refusals(out, &A_WRITER, &A_READER)
 }

@@ -9,11 +9,14 @@ mod reading;
 mod running;
 mod writing;
 
-fn main() {
-    reading::run();
-    building::run();
-    asking::run();
-    explaining::run();
-    running::run();
-    writing::run();
+use std::io;
+
+fn main(rt: HostRuntime) -> io::Result<()> {
+    let mut out = rt.stdout();
+    reading::run(&mut out)?;
+    building::run(&mut out)?;
+    asking::run(&mut out)?;
+    explaining::run(&mut out)?;
+    running::run(&mut out)?;
+    writing::run(&mut out)
 }

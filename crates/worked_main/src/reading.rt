@@ -2,6 +2,8 @@
 ghost use Rattle.std.specs.Prelude.{◌≤◌, ◌<◌};
 
 use format::{Side, Table};
+use std::io;
+use std::io::Write;
 use worked::A_WRITER;
 
 // One state, one letter, no rows.
@@ -20,7 +22,7 @@ const EQUAL_ROWS: [u8; 24] = [
 ];
 
 // The header and the last row of the table in hand: of a refused one, zeros.
-fn show_table(t: Table) {
+fn show_table<W: Write>(out: &mut W, t: Table) -> io::Result<()> {
     let last = t.rows[63];
     let numbers = [
         t.version as u64,
@@ -37,25 +39,26 @@ fn show_table(t: Table) {
         last.next as u64,
     ];
     show::line(
+        out,
         b" version % role % states % start % finish % letters % rows % row 63: state % drive % answer % item % next %\n",
         &numbers,
-    );
+    )
 }
 
-fn of(name: &[u8], bytes: &[u8], side: Side) {
+fn of<W: Write>(out: &mut W, name: &[u8], bytes: &[u8], side: Side) -> io::Result<()> {
     let r = tables::read(bytes, side);
     let v = r.verdict;
     let t = r.table;
-    show::verdict(name, b": fine,", v);
-    show_table(t);
+    show::verdict(out, name, b": fine,", v)?;
+    show_table(out, t)
 }
 
-fn of_writer(name: &[u8], bytes: &[u8]) {
-    of(name, bytes, Side::Writer);
+fn of_writer<W: Write>(out: &mut W, name: &[u8], bytes: &[u8]) -> io::Result<()> {
+    of(out, name, bytes, Side::Writer)
 }
 
-fn of_reader(name: &[u8], bytes: &[u8]) {
-    of(name, bytes, Side::Reader);
+fn of_reader<W: Write>(out: &mut W, name: &[u8], bytes: &[u8]) -> io::Result<()> {
+    of(out, name, bytes, Side::Reader)
 }
 
 // The header of a table with n rows and its true length: 16 states, 8 letters.
@@ -91,55 +94,54 @@ fn dense(n: usize) -> [u8; 334]
     requires { n ≤ 65 }
 {
     let mut b = header(n);
-    let mut i = 0;
-    while i < n {
+    for i in 0..n {
         put_row(&mut b, i);
-        i += 1;
     }
     b
 }
 
 // The first n of the bytes.
-fn show_first(name: &[u8], b: &[u8], n: usize) {
+fn show_first<W: Write>(out: &mut W, name: &[u8], b: &[u8], n: usize) -> io::Result<()> {
     if n <= b.len() {
-        of_reader(name, &b[..n]);
+        of_reader(out, name, &b[..n])?;
     }
+    Ok(())
 }
 
-fn limits() {
-    of_writer(b"9 bytes", &SHORTEST);
-    of_writer(b"pair A", &A_WRITER);
+fn limits<W: Write>(out: &mut W) -> io::Result<()> {
+    of_writer(out, b"9 bytes", &SHORTEST)?;
+    of_writer(out, b"pair A", &A_WRITER)?;
     let most = dense(64);
-    show_first(b"329 bytes, 64 rows", &most, 329);
+    show_first(out, b"329 bytes, 64 rows", &most, 329)?;
     let over = dense(65);
-    show_first(b"334 bytes, 65 rows", &over, 334);
+    show_first(out, b"334 bytes, 65 rows", &over, 334)
 }
 
 // The shortest table with one byte changed.
-fn changed(name: &[u8], at: usize, value: u8)
+fn changed<W: Write>(out: &mut W, name: &[u8], at: usize, value: u8) -> io::Result<()>
     requires { at < 9 }
 {
     let mut t = SHORTEST;
     t[at] = value;
-    of_writer(name, &t);
+    of_writer(out, name, &t)
 }
 
-fn damaged() {
-    of_reader(b"no bytes", b"");
-    of_writer(b"8 bytes", &EIGHT_BYTES);
-    changed(b"version 2", 0, 2);
-    changed(b"length untrue", 2, 7);
-    changed(b"length of other rows", 8, 1);
-    of_reader(b"role of the writer", &A_WRITER);
-    changed(b"no states", 4, 0);
-    changed(b"9 letters", 7, 9);
-    changed(b"finish outside", 6, 1);
-    of_writer(b"two items", &TWO_ITEMS);
-    of_writer(b"equal rows", &EQUAL_ROWS);
+fn damaged<W: Write>(out: &mut W) -> io::Result<()> {
+    of_reader(out, b"no bytes", b"")?;
+    of_writer(out, b"8 bytes", &EIGHT_BYTES)?;
+    changed(out, b"version 2", 0, 2)?;
+    changed(out, b"length untrue", 2, 7)?;
+    changed(out, b"length of other rows", 8, 1)?;
+    of_reader(out, b"role of the writer", &A_WRITER)?;
+    changed(out, b"no states", 4, 0)?;
+    changed(out, b"9 letters", 7, 9)?;
+    changed(out, b"finish outside", 6, 1)?;
+    of_writer(out, b"two items", &TWO_ITEMS)?;
+    of_writer(out, b"equal rows", &EQUAL_ROWS)
 }
 
-pub fn run() {
-    show::text(b"---- read\n");
-    limits();
-    damaged();
+pub fn run<W: Write>(out: &mut W) -> io::Result<()> {
+    show::text(out, b"---- read\n")?;
+    limits(out)?;
+    damaged(out)
 }

@@ -10,10 +10,10 @@ use std::thread::sleep;
 use std::time::Duration;
 
 /// The words that run the program: those of the variable `LISTING_RUN` before
-/// the path of `target/bin/listing`. The variable is for machines that run
+/// the path of `crates/listing/out/listing`. The variable is for machines that run
 /// x86-64 programs under an emulator; elsewhere it is not set.
 pub fn command() -> Vec<String> {
-    let program = Path::new(env!("CARGO_MANIFEST_DIR")).join("../../target/bin/listing");
+    let program = Path::new(env!("CARGO_MANIFEST_DIR")).join("../../crates/listing/out/listing");
     let before = std::env::var("LISTING_RUN").unwrap_or_default();
     let mut words: Vec<String> = before.split_whitespace().map(String::from).collect();
     words.push(program.to_string_lossy().into_owned());
@@ -54,7 +54,5 @@ fn started() -> Child {
         .stdin(Stdio::piped())
         .stdout(Stdio::piped())
         .spawn()
-        .unwrap_or_else(|error| {
-            panic!("cannot run {words:?}: {error}; `rt check listing` builds it")
-        })
+        .unwrap_or_else(|error| panic!("cannot run {words:?}: {error}; `./list` builds it"))
 }

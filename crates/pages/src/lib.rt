@@ -1,5 +1,5 @@
 // The listing of one pair, a line at a time into a lent buffer: its first line or its refusal, and the line of each place.
-// A program can only be proved to be safe, not to print the right bytes, so whatever decides the bytes is here.
+// Whatever decides the bytes is here: the program above reads and writes, and says what it wrote where reader and writer know their bytes.
 #![tactic(auto)]
 
 ghost use Rattle.std.specs.Prelude.{◌≡◌, ◌≤◌, ◌<◌};

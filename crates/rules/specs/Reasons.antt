@@ -1,6 +1,6 @@
 -- Request b, "Say why a move is not allowed": "The move test shall give a reason", with respect to a set K of configurations.
 -- Assumes nothing. Proved: where a move is allowed none of the six reasons against it applies, and no two reasons are the lowest (allowed_none,
--- one_reason, proofs/Reasons.antt); where none of the six applies it is allowed, and there is always a reason (none-allowed, some_reason,
+-- one_reason, proofs/Reasons.antt); where none of the six applies it is allowed, and there is always a reason (none_allowed, some_reason,
 -- proofs/Tools/Reasoned.antt, of sets of which a test says who is a member).
 use Rattle.std.specs.Prelude.{Bool, not, ℕ, ◌<◌, T}
 use Rattle.format.specs.declared.Row.{Row}

@@ -1,5 +1,4 @@
 -- `entry::largest` meets its contract: after p bytes, the largest of those. Assumes nothing.
-use Prim.Native.Nat.{◌-◌}
 use native.Mathlib.Omega.{arith}
 use mathlib.Core.Path.{◌≡◌}
 use Rattle.entry.proofs.largest.Goals as goal

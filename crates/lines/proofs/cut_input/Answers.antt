@@ -13,9 +13,9 @@ pub slice_bounds-rest-count : goal.slice_bounds-rest-count
 slice_bounds-rest-count c =
     let second : c.table_bytes.result ≡ table_bytes (drop c.table_bytes-writer.result c.args.input.now) =
     c.table_bytes.ensures ∙ ap table_bytes (lent_from c.args.input.now _) in
-    let both-inside : c.table_bytes-writer.result + c.table_bytes.result ≤ length c.args.input.now =
+    let both_inside : c.table_bytes-writer.result + c.table_bytes.result ≤ length c.args.input.now =
     tables_inside _ _ _ c.table_bytes-writer.ensures (second) in
-    both-inside
+    both_inside
 
 pub returns : goal.returns
 returns c =
@@ -39,9 +39,9 @@ pub overflow_add-reader : goal.overflow_add-reader
 overflow_add-reader c =
     let second : c.table_bytes.result ≡ table_bytes (drop c.table_bytes-writer.result c.args.input.now) =
     c.table_bytes.ensures ∙ ap table_bytes (lent_from c.args.input.now _) in
-    let both-inside : c.table_bytes-writer.result + c.table_bytes.result ≤ length c.args.input.now =
+    let both_inside : c.table_bytes-writer.result + c.table_bytes.result ≤ length c.args.input.now =
     tables_inside _ _ _ c.table_bytes-writer.ensures (second) in
-    omega (arith, both-inside)
+    omega (arith, both_inside)
 
 pub slice_bounds-table_bytes-start : goal.slice_bounds-table_bytes-start
 slice_bounds-table_bytes-start c = omega (arith, table_inside c.args.input.now)

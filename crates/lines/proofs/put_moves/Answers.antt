@@ -1,6 +1,5 @@
 -- `lines::put_moves` meets its contract: with m bits looked at, the moves of the bits below m stand there. Assumes nothing.
 use Rattle.texts.proofs.Moves.{moves_length}
-use Prim.Native.Nat.{◌-◌}
 use native.Mathlib.Omega.{arith}
 use mathlib.Core.Path.{◌∙◌, refl}
 use Rattle.lines.proofs.Moves.{moves_next, moves_end, moves_start}

@@ -1,4 +1,5 @@
-use Rattle.std.proofs.Common.{◌≡◌, length, rules}
+-- `list`: the first line, then the places. Assumes nothing.
+use Rattle.std.proofs.Common.{rules}
 use Rattle.listing.proofs.Joined.{whole}
 use Rattle.listing.proofs.list.Goals as goal
 

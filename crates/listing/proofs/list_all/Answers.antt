@@ -1,3 +1,4 @@
+-- `list_all`: what was read is what the reader held first. Assumes nothing.
 use Rattle.listing.proofs.Joined.{no_input, some_input}
 use Rattle.listing.proofs.list_all.Goals as goal
 

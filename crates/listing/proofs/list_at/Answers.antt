@@ -1,4 +1,5 @@
-use Rattle.std.proofs.Common.{◌≡◌, List, ℕ, ◌<◌, sym, subst, rules}
+-- `list_at`: the listings so far, and one more. Assumes nothing.
+use Rattle.std.proofs.Common.{List, ℕ, sym, subst, rules}
 use Rattle.std.proofs.lemmas.List.{take_more}
 use Rattle.worked.specs.declared.TheConstants.{REGISTERED}
 use Rattle.listing.specs.Printed.{PrintsEach}

@@ -1,3 +1,4 @@
+-- `list_worked`: pair A, then pair C. Assumes nothing.
 use Rattle.listing.proofs.Joined.{both}
 use Rattle.listing.proofs.list_worked.Goals as goal
 

@@ -1,3 +1,4 @@
+-- `read_full` ends since each read but the last leaves fewer bytes to fill. Assumes nothing.
 use Rattle.std.proofs.Common.{length, ◌-◌, ◌≤◌, take}
 use Rattle.std.specs.Io.KnownBytes.{Consumes}
 use Rattle.listing.proofs.read_full.Given as goal

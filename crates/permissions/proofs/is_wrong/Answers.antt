@@ -20,16 +20,16 @@ pub returns-then-count-list : goal.returns-then-count-list
 returns-then-count-list c =
     let count : ℕ =
     256 * c.wide.result + c.wide-2.result in
-    let count-is : count ≡ length_in c.args.list.now =
+    let count_is : count ≡ length_in c.args.list.now =
     ap₂ (λ (x y : ℕ). 256 * x + y) c.wide.ensures.0 c.wide-2.ensures.0 in
     let a = c.args in
-    wrong_count a.n a.list.now (λ h. c.if-count-list.true (omega (arith, count-is)))
+    wrong_count a.n a.list.now (λ h. c.if-count-list.true (omega (arith, count_is)))
 
 pub returns : goal.returns
 returns c =
     let count : ℕ =
     256 * c.wide.result + c.wide-2.result in
-    let count-is : count ≡ length_in c.args.list.now =
+    let count_is : count ≡ length_in c.args.list.now =
     ap₂ (λ (x y : ℕ). 256 * x + y) c.wide.ensures.0 c.wide-2.ensures.0 in
     let a = c.args in
-    wrong_sets a.n a.list.now (count) (omega arith) (omega arith) (count-is) c.if-count-list.false
+    wrong_sets a.n a.list.now (count) (omega arith) (omega arith) (count_is) c.if-count-list.false

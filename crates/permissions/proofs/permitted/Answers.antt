@@ -1,6 +1,6 @@
 -- `permissions::permitted` meets its contract: byte after byte. Assumes nothing.
 use lib.Pow.{pow_mono}
-use Prim.Native.Nat.{◌-◌, ◌*◌, ◌^◌, ◌<◌}
+use Prim.Native.Nat.{◌*◌, ◌^◌, ◌<◌}
 use native.Mathlib.Omega.{arith}
 use Rattle.permissions.proofs.ListLaws.{bytes_more, big_more, set_all}
 use Rattle.permissions.proofs.permitted.Goals as goal

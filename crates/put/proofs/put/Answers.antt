@@ -1,5 +1,4 @@
 -- `put::put` meets its contract: with i bytes copied, the first i of the piece stand there. Assumes nothing.
-use Prim.Native.Nat.{◌-◌}
 use native.Mathlib.Omega.{arith}
 use mathlib.Core.Path.{refl}
 use lib.ListN.{length-set}

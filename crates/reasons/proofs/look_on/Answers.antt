@@ -1,5 +1,5 @@
 -- `reasons::look_on` meets its contract: with the moves below m looked at, the set and the last reason are theirs. Assumes nothing.
-use Prim.Native.Nat.{ℕ, ◌-◌, ◌<◌}
+use Prim.Native.Nat.{ℕ, ◌<◌}
 use native.Mathlib.Omega.{arith}
 use mathlib.Core.Path.{refl}
 use Rattle.lists.proofs.Bits.{number_below}
@@ -17,9 +17,9 @@ units_of-taken-requires c = few_reader c.requires.0
 
 pub loop-m-init : goal.loop-m-init
 loop-m-init c =
-    let reason-here : ℕ → ℕ → Reason =
+    let reason_here : ℕ → ℕ → Reason =
     let a = c.args in reason_on a.w.now a.r.now a.s a.k.now in
-    looks_none (reason-here) c.args.first c.args.end 0
+    looks_none (reason_here) c.args.first c.args.end 0
 
 pub reason-last-requires : goal.reason-last-requires
 reason-last-requires c =
@@ -41,14 +41,14 @@ next_move-m-requires c =
 
 pub loop-m-preserved : goal.loop-m-preserved
 loop-m-preserved c =
-    let reason-here : ℕ → ℕ → Reason =
+    let reason_here : ℕ → ℕ → Reason =
     let a = c.args in reason_on a.w.now a.r.now a.s a.k.now in
     let a = c.args in
-    looks_more (reason-here) a.first a.end (letter_two a.w.now a.r.now a.s a.k.now) c.loop-m.m c.loop-m-test.true
+    looks_more (reason_here) a.first a.end (letter_two a.w.now a.r.now a.s a.k.now) c.loop-m.m c.loop-m-test.true
     c.loop-m.invariant c.reason-last.ensures refl c.with_move-set.ensures c.next_move-m.ensures
 
 pub returns : goal.returns
 returns c =
-    let reason-here : ℕ → ℕ → Reason =
+    let reason_here : ℕ → ℕ → Reason =
     let a = c.args in reason_on a.w.now a.r.now a.s a.k.now in
-    looks_all (reason-here) c.args.first c.args.end (omega arith) c.loop-m.invariant
+    looks_all (reason_here) c.args.first c.args.end (omega arith) c.loop-m.invariant

@@ -1,5 +1,4 @@
 -- `runs::some_nonzero` meets its contract: a search from low to high. Assumes nothing.
-use Prim.Native.Nat.{◌-◌}
 use mathlib.Core.Path.{refl, ap, ◌∙◌}
 use mathlib.Core.Bool.{not}
 use borrow.Author.Tests.{eq-eqb, ne_eqb}

@@ -32,22 +32,22 @@ pub returns-then-n-b : goal.returns-then-n-b
 returns-then-n-b c =
     let long : length_wrong c.args.b.now ≡ false =
     sym c.length_wrong.ensures ∙ c.if-length_wrong.false in
-    let in-range : range_wrong c.args.b.now ≡ false =
+    let in_range : range_wrong c.args.b.now ≡ false =
     sym c.range_wrong.ensures ∙ c.if-range_wrong.false in
-    c.refuse-then-n-b.ensures ∙ header_6 _ _ (omega arith) (omega arith) (long) (omega arith) (in-range) (λ h. omega arith)
+    c.refuse-then-n-b.ensures ∙ header_6 _ _ (omega arith) (omega arith) (long) (omega arith) (in_range) (λ h. omega arith)
 
 pub returns-then-n-b-2 : goal.returns-then-n-b-2
 returns-then-n-b-2 c =
     let long : length_wrong c.args.b.now ≡ false =
     sym c.length_wrong.ensures ∙ c.if-length_wrong.false in
-    let in-range : range_wrong c.args.b.now ≡ false =
+    let in_range : range_wrong c.args.b.now ≡ false =
     sym c.range_wrong.ensures ∙ c.if-range_wrong.false in
-    c.refuse-then-n-b-2.ensures ∙ header_6 _ _ (omega arith) (omega arith) (long) (omega arith) (in-range) (λ h. omega arith)
+    c.refuse-then-n-b-2.ensures ∙ header_6 _ _ (omega arith) (omega arith) (long) (omega arith) (in_range) (λ h. omega arith)
 
 pub returns : goal.returns
 returns c =
     let long : length_wrong c.args.b.now ≡ false =
     sym c.length_wrong.ensures ∙ c.if-length_wrong.false in
-    let in-range : range_wrong c.args.b.now ≡ false =
+    let in_range : range_wrong c.args.b.now ≡ false =
     sym c.range_wrong.ensures ∙ c.if-range_wrong.false in
-    header_fine _ _ (omega arith) (omega arith) (long) (omega arith) (in-range) (omega arith, omega arith)
+    header_fine _ _ (omega arith) (omega arith) (long) (omega arith) (in_range) (omega arith, omega arith)

@@ -1,5 +1,4 @@
 -- `turns::row_of` meets its contract: a search from low to high. Assumes nothing.
-use Prim.Native.Nat.{◌-◌}
 use native.Mathlib.Omega.{arith}
 use mathlib.Core.Path.{◌∙◌}
 use Rattle.lists.proofs.Search.{seek_hit, seek_miss, seek_end}

@@ -1,5 +1,4 @@
 -- `turns::items::moved` meets its contract: with i places filled in, the rest is still zero. Assumes nothing.
-use Prim.Native.Nat.{◌-◌}
 use native.Mathlib.Omega.{arith}
 use mathlib.Core.Path.{◌≡◌, ◌∙◌, refl}
 use lib.ListN.{replicate, length-set}

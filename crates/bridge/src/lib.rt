@@ -11,17 +11,19 @@ ghost use Rattle.calls.specs.Packed.{packed, packed_with, packed_asked, packed_e
 
 use ask::ask;
 use build::build;
+use calls::Call;
 use checker::check;
 use format::Verdict;
+use rules::At;
 use why::why;
 
 fn pack(number: u8, side: u8, row: u16, fourth: u64, fifth: u64) -> u64
     requires { (fourth < 2 ^ 16) × (fifth < 2 ^ 16) }
     ensures { result ≡ packed number side row fourth fifth }
 {
-    (number as u64)
-        + 0x100 * (side as u64)
-        + 0x1_0000 * (row as u64)
+    u64::from(number)
+        + 0x100 * u64::from(side)
+        + 0x1_0000 * u64::from(row)
         + 0x1_0000_0000 * fourth
         + 0x1_0000_0000_0000 * fifth
 }
@@ -31,8 +33,14 @@ fn pack_verdict(verdict: Verdict, fourth: u64, fifth: u64) -> u64
     ensures { result ≡ packed_with verdict fourth fifth }
 {
     match verdict {
-        Verdict::Fine => pack(0, 0, 0, fourth, fifth),
-        Verdict::Refused { number, side, row } => pack(number, side, row, fourth, fifth),
+        Ok(()) => pack(0, 0, 0, fourth, fifth),
+        Err(refusal) => pack(
+            refusal.fault.number(),
+            refusal.side_number(),
+            refusal.row,
+            fourth,
+            fifth,
+        ),
     }
 }
 
@@ -46,9 +54,14 @@ pub extern "C" fn bridge_build(
 ) -> u64
     ensures { PackedBuild (call_of writer.now reader.now bound rule) buffer.old buffer.new result }
 {
-    let b = build(writer, reader, bound, rule, buffer);
-    let v = b.verdict;
-    pack_verdict(v, b.kept, b.rounds)
+    let call = Call {
+        writer,
+        reader,
+        bound,
+        rule,
+    };
+    let b = build(&call, buffer);
+    pack_verdict(b.verdict, b.kept, b.rounds)
 }
 
 #[unsafe(no_mangle)]
@@ -65,20 +78,22 @@ pub extern "C" fn bridge_ask(
     ensures { result ≡ packed_asked
         (ask_of (call_of writer.now reader.now bound rule) kept.now (conf_with writer_state reader_state level)) }
 {
-    let a = ask(
+    let call = Call {
         writer,
         reader,
         bound,
         rule,
-        kept,
-        writer_state,
-        reader_state,
+    };
+    let at = At {
+        writer: writer_state,
+        reader: reader_state,
         level,
-    );
-    let v = a.verdict;
-    pack_verdict(v, a.count as u64, a.lowest as u64)
+    };
+    let a = ask(&call, kept, at);
+    pack_verdict(a.verdict, u64::from(a.count), u64::from(a.lowest))
 }
 
+// C asks for the set and for the packed number by two names.
 #[unsafe(no_mangle)]
 pub extern "C" fn bridge_ask_set(
     writer: &[u8],
@@ -93,17 +108,18 @@ pub extern "C" fn bridge_ask_set(
     ensures { result ≡ (ask_of (call_of writer.now reader.now bound rule) kept.now
         (conf_with writer_state reader_state level)).set }
 {
-    ask(
+    let call = Call {
         writer,
         reader,
         bound,
         rule,
-        kept,
-        writer_state,
-        reader_state,
+    };
+    let at = At {
+        writer: writer_state,
+        reader: reader_state,
         level,
-    )
-    .set
+    };
+    ask(&call, kept, at).set
 }
 
 #[unsafe(no_mangle)]
@@ -122,20 +138,19 @@ pub extern "C" fn bridge_why(
     ensures { result ≡ packed_explained
         (why_of (call_of writer.now reader.now bound rule) kept.now (conf_with writer_state reader_state level) x y) }
 {
-    let e = why(
+    let call = Call {
         writer,
         reader,
         bound,
         rule,
-        kept,
-        writer_state,
-        reader_state,
+    };
+    let at = At {
+        writer: writer_state,
+        reader: reader_state,
         level,
-        x,
-        y,
-    );
-    let v = e.verdict;
-    pack_verdict(v, e.reason as u64, 0)
+    };
+    let e = why(&call, kept, at, x, y);
+    pack_verdict(e.verdict, u64::from(e.reason), 0)
 }
 
 #[unsafe(no_mangle)]
@@ -148,6 +163,12 @@ pub extern "C" fn bridge_check(
 ) -> u64
     ensures { PackedCheck (call_of writer.now reader.now bound rule) list.now result }
 {
-    let v = check(writer, reader, bound, rule, list);
-    pack_verdict(v, 0, 0)
+    let call = Call {
+        writer,
+        reader,
+        bound,
+        rule,
+    };
+    let verdict = check(&call, list);
+    pack_verdict(verdict, 0, 0)
 }

@@ -9,8 +9,7 @@ use borrow.Author.Tests.{lt-leb, leb-false, not-false}
 use Rattle.lists.proofs.Bools.{is_true}
 use Rattle.format.specs.declared.Row.{Row}
 use Rattle.format.specs.declared.Table.{Table}
-use Rattle.format.specs.declared.Verdict.TheVariants.{Fine}
-use Rattle.format.specs.Verdicts.{verdict_of}
+use Rattle.format.specs.Verdicts.{Fine, verdict_of}
 use Rattle.format.specs.Good.{row, Good}
 use Rattle.format.proofs.Verdicts.{fine_front, fine_goes_on, fine_silent, given_fine, given_verdict}
 use Rattle.rules.specs.declared.Pair.{Pair}

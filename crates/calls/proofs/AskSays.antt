@@ -12,8 +12,7 @@ use Rattle.lists.specs.Search.{first}
 use Rattle.lists.proofs.Bools.{is_true, true_is, same_test}
 use Rattle.lists.specs.Bits.{number}
 use Rattle.lists.proofs.Bits.{number_same, number_ones, number_lowest}
-use Rattle.format.specs.declared.Verdict.TheVariants.{Fine}
-use Rattle.format.specs.Verdicts.{verdict_of}
+use Rattle.format.specs.Verdicts.{Fine, verdict_of}
 use Rattle.format.proofs.Verdicts.{fine_front, fine_goes_on, given_verdict}
 use Rattle.rules.specs.declared.Pair.{Pair}
 use Rattle.rules.specs.declared.Conf.{Conf}

@@ -9,8 +9,7 @@ use lib.Count.{ones, count_trailing_zeros}
 use Rattle.lists.specs.Lists.{tab, count}
 use Rattle.lists.specs.Search.{first}
 use Rattle.lists.proofs.Bits.{number_bit, number_below, number_ones, number_lowest}
-use Rattle.format.specs.declared.Verdict.TheVariants.{Fine}
-use Rattle.format.specs.Verdicts.{verdict_of}
+use Rattle.format.specs.Verdicts.{Fine, verdict_of}
 use Rattle.format.proofs.Verdicts.{then_decides, given_fine}
 use Rattle.rules.specs.declared.Pair.{Pair}
 use Rattle.rules.specs.declared.Conf.{Conf}

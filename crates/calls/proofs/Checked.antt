@@ -3,9 +3,7 @@ use Prim.Native.Nat.{ℕ}
 use mathlib.Core.Path.{◌≡◌, refl, sym, ap, ◌∙◌, subst}
 use mathlib.Core.Logic.{inl, inr}
 use mathlib.Core.List.{List}
-use Rattle.format.specs.declared.Verdict.{Verdict}
-use Rattle.format.specs.declared.Verdict.TheVariants.{Fine, Refused}
-use Rattle.format.specs.Verdicts.{verdict_of, given}
+use Rattle.format.specs.Verdicts.{Verdict, Fine, Refused, verdict_of, given}
 use Rattle.format.proofs.Verdicts.{fine_front}
 use Rattle.rules.specs.declared.Pair.{Pair}
 use Rattle.rules.specs.declared.Conf.{Conf}
@@ -18,6 +16,9 @@ use Rattle.calls.specs.Refusals.{enter_checks}
 use Rattle.calls.specs.Lists.{Permits}
 use Rattle.calls.specs.Check.{Judged, judges_checks, check_checks, CheckSays}
 use Rattle.calls.proofs.Silent.{enter_good}
+use Rattle.std.specs.Prelude.{None, Ok, Err}
+use Rattle.format.specs.declared.Fault.TheVariants.{BadMovePermitted, NoWayToFinish}
+use Rattle.format.specs.declared.Refusal.{Refusal}
 
 -- ---- which verdict a list has, past 18
 
@@ -33,16 +34,16 @@ module _ (X : Pair) (list : List ℕ) where
 
   module _ (g : GoodPair X) {v : Verdict} (c : Conf) (lowest : LowestFaulty X Its c) where
     -- where the lowest faulty place permits a bad move the verdict is 19, also where it has no way to finish
-    pub nineteen_first : PermitsBad X Its c → Judged X list v → v ≡ Refused 19 0 (place X c)
+    pub nineteen_first : PermitsBad X Its c → Judged X list v → v ≡ Refused BadMovePermitted None (place X c)
     nineteen_first bad (inl p) = absurd (accepted_faultless X Its p.accepted c lowest.faulty)
-    nineteen_first bad (inr (inl p)) = p.verdict ∙ ap (λ (z : Conf). Refused 19 0 (place X z)) (lowest_one X Its g p.at c p.lowest lowest)
+    nineteen_first bad (inr (inl p)) = p.verdict ∙ ap (λ (z : Conf). Refused BadMovePermitted None (place X z)) (lowest_one X Its g p.at c p.lowest lowest)
     nineteen_first bad (inr (inr p)) = absurd (p.not_bad (subst (PermitsBad X Its) (lowest_one X Its g c p.at lowest p.lowest) bad))
 
     -- and else 20
-    pub twenty_else : ¬ PermitsBad X Its c → Judged X list v → v ≡ Refused 20 0 (place X c)
+    pub twenty_else : ¬ PermitsBad X Its c → Judged X list v → v ≡ Refused NoWayToFinish None (place X c)
     twenty_else none (inl p) = absurd (accepted_faultless X Its p.accepted c lowest.faulty)
     twenty_else none (inr (inl p)) = absurd (none (subst (PermitsBad X Its) (lowest_one X Its g p.at c p.lowest lowest) p.bad))
-    twenty_else none (inr (inr p)) = p.verdict ∙ ap (λ (z : Conf). Refused 20 0 (place X z)) (lowest_one X Its g p.at c p.lowest lowest)
+    twenty_else none (inr (inr p)) = p.verdict ∙ ap (λ (z : Conf). Refused NoWayToFinish None (place X z)) (lowest_one X Its g p.at c p.lowest lowest)
 
   -- there is one verdict
   pub judged_one : GoodPair X → {v w : Verdict} → Judged X list v → Judged X list w → v ≡ w
@@ -69,12 +70,12 @@ module _ (k : Call) (list : List ℕ) where
 
   -- either its checks are silent and the list is judged, or one refuses
   pub check_cases : (v : Verdict) (P : Type 0) → CheckSays k list v → (Whole → Judged X list v → P)
-      → ((n s r : ℕ) → verdict_of (check_checks k list) ≡ Refused n s r → v ≡ Refused n s r → P) → P
+      → ((r : Refusal) → verdict_of (check_checks k list) ≡ Err r → v ≡ Err r → P) → P
   check_cases v P says judged refused = go (verdict_of (check_checks k list)) refl says
     where
-      go : (u : Verdict) → verdict_of (check_checks k list) ≡ u → given u (λ w. v ≡ w) (Judged X list v) → P
-      go Fine e m = judged e m
-      go (Refused n s r) e m = refused n s r e m
+      go : (u : Verdict) → verdict_of (check_checks k list) ≡ u → given u (λ r. v ≡ Err r) (Judged X list v) → P
+      go (Ok tt) e m = judged e m
+      go (Err r) e m = refused r e m
 
   -- past the checks the list is judged
   pub check_judged : (v : Verdict) → CheckSays k list v → Whole → Judged X list v
@@ -85,7 +86,7 @@ module _ (k : Call) (list : List ℕ) where
   check_one v w p q =
       check_cases v (v ≡ w) p
       (λ fine m. judged_one X list (check_good fine) m (check_judged w q fine))
-      (λ n s r e m. m ∙ refused e)
+      (λ r e m. m ∙ refused e)
     where
-      refused : {n s r : ℕ} → verdict_of (check_checks k list) ≡ Refused n s r → Refused n s r ≡ w
+      refused : {r : Refusal} → verdict_of (check_checks k list) ≡ Err r → Err r ≡ w
       refused e = sym (rw e at q)

@@ -7,11 +7,10 @@ use mathlib.Core.Bool.{Bool, true, false, cond}
 use mathlib.Core.List.{List, [], ◌∷◌}
 use lib.Dec.{eqb}
 use borrow.Author.Tests.{eqb-false}
+use Rattle.std.specs.Prelude.{Err, None}
 use Rattle.lists.specs.Lists.{any}
 use Rattle.lists.proofs.Bools.{or_none}
-use Rattle.format.specs.declared.Verdict.{Verdict}
-use Rattle.format.specs.declared.Verdict.TheVariants.{Fine, Refused}
-use Rattle.format.specs.Verdicts.{number_of, Check, verdict_of}
+use Rattle.format.specs.Verdicts.{fault_number, Verdict, Fine, Refused, number_of, Check, verdict_of}
 use Rattle.format.specs.Reads.{header_checks, row_checks}
 use Rattle.format.proofs.Verdicts.{given_verdict, refused_not_fine}
 use Rattle.rules.specs.declared.Conf.{Conf}
@@ -32,23 +31,24 @@ use Rattle.calls.proofs.Accepted.{step_verdict}
 use Rattle.calls.proofs.Refused.{why_verdict}
 use Rattle.calls.proofs.Largest.{build_cases}
 use Rattle.calls.proofs.Checked.{Whole, check_cases}
+use Rattle.format.specs.declared.Fault.TheVariants.{StartDropped}
 
 -- ---- a list of checks none of which has the number n
 
 has_number : ℕ → Check → Bool
-has_number n c = eqb c.number n
+has_number n c = eqb (fault_number c.refuses.fault) n
 
 -- a verdict whose number no check has is fine
 no_such : (n : ℕ) (cs : List Check) → any (has_number n) cs ≡ false → number_of (verdict_of cs) ≡ n → verdict_of cs ≡ Fine
 unfolding has_number
 no_such n [] off e = refl
-no_such n (c ∷ cs) off e = go (no_such n cs) (or_none (eqb c.number n) (any (has_number n) cs) off) c.applies e
+no_such n (c ∷ cs) off e = go (no_such n cs) (or_none (eqb (fault_number c.refuses.fault) n) (any (has_number n) cs) off) c.applies e
   where
     go : (any (has_number n) cs ≡ false → number_of (verdict_of cs) ≡ n → verdict_of cs ≡ Fine)
-        → (eqb c.number n ≡ false) × (any (has_number n) cs ≡ false)
-        → (b : Bool) → number_of (cond b (Refused c.number c.side c.row) (verdict_of cs)) ≡ n
-        → cond b (Refused c.number c.side c.row) (verdict_of cs) ≡ Fine
-    go later off true q = absurd (eqb-false c.number n off.0 q)
+        → (eqb (fault_number c.refuses.fault) n ≡ false) × (any (has_number n) cs ≡ false)
+        → (b : Bool) → number_of (cond b (Err c.refuses) (verdict_of cs)) ≡ n
+        → cond b (Err c.refuses) (verdict_of cs) ≡ Fine
+    go later off true q = absurd (eqb-false (fault_number c.refuses.fault) n off.0 q)
     go later off false q = later off.1 q
 
 never : (n : ℕ) (cs : List Check) → any (has_number (suc n)) cs ≡ false → number_of (verdict_of cs) ≡ suc n → ⊥
@@ -93,12 +93,12 @@ checks_numbered k before = numbered (build_checks k before) refl refl refl
 
 pub record NumberedBuild (v : Verdict) : Type 0 where
   pub zero_done : (number_of v ≡ 0) ↔ (v ≡ Fine)
-  pub eleven_none : (number_of v ≡ 11) ↔ (v ≡ Refused 11 0 0)
+  pub eleven_none : (number_of v ≡ 11) ↔ (v ≡ Refused StartDropped None 0)
 
 pub build_numbered : (k : Call) (before after : List ℕ) (b : Built) → BuildSays k before after b → NumberedBuild b.verdict
 build_numbered k before after b says =
     build_cases k before after b (NumberedBuild b.verdict) says (λ fine m. made m)
-    (λ n s r e u. refused (subst Numbered (e ∙ sym (ap (λ (z : Built). z.verdict) u.0)) (checks_numbered k before)))
+    (λ r e u. refused (subst Numbered (e ∙ sym (ap (λ (z : Built). z.verdict) u.0)) (checks_numbered k before)))
   where
     made : Made (pair_of k) before after b → NumberedBuild b.verdict
     made (inl a) = record {
@@ -130,7 +130,7 @@ module _ (k : Call) (list : List ℕ) (v : Verdict) (says : CheckSays k list v) 
   past_checks n off e =
       check_cases k list v (Whole k list × Judged (pair_of k) list v) says
       (λ whole m. (whole, m))
-      (λ m s r q u. absurd (refused_not_fine (sym q ∙ no_such n (check_checks k list) off (ap number_of (q ∙ sym u) ∙ e))))
+      (λ r q u. absurd (refused_not_fine (sym q ∙ no_such n (check_checks k list) off (ap number_of (q ∙ sym u) ∙ e))))
 
   by_zero : Judged (pair_of k) list v → number_of v ≡ 0 → NoFault (pair_of k) list v
   by_zero (inl p) e = p

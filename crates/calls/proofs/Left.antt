@@ -18,7 +18,7 @@ module _ (k : Call) (before after : List ℕ) (b : Built) (says : BuildSays k be
 
   -- "the rest stand as before", in every case
   pub build_rest : drop n after ≡ drop n before
-  build_rest = build_cases k before after b (drop n after ≡ drop n before) says (λ fine made. rest made) (λ v s r e u. ap (drop n) u.1)
+  build_rest = build_cases k before after b (drop n after ≡ drop n before) says (λ fine made. rest made) (λ r e u. ap (drop n) u.1)
     where
       rest : Made (pair_of k) before after b → drop n after ≡ drop n before
       rest (inl a) = ap (drop n) a.buffer ∙ drop_at a.bytes (drop n before) n a.answer.long

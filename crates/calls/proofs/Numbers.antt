@@ -6,10 +6,9 @@ use mathlib.Core.Logic.{inl, inr}
 use mathlib.Core.Bool.{Bool, true, false, cond}
 use mathlib.Core.List.{List, [], ◌∷◌, ◌++◌}
 use Rattle.lists.proofs.Search.{first_le}
+use Rattle.format.specs.declared.Side.{Side}
 use Rattle.format.specs.declared.Side.TheVariants.{Writer, Reader}
-use Rattle.format.specs.declared.Verdict.{Verdict}
-use Rattle.format.specs.declared.Verdict.TheVariants.{Fine, Refused}
-use Rattle.format.specs.Verdicts.{side_number, number_of, side_of, row_of, Check, verdict_of, and_then, given}
+use Rattle.format.specs.Verdicts.{Verdict, Fine, side_number, number_of, side_of, row_of, Check, verdict_of, and_then, given}
 use Rattle.format.specs.Format.{rows_in}
 use Rattle.format.specs.Reads.{bad_row, fall_row, header_checks, row_checks, checks}
 use Rattle.format.proofs.Verdicts.{fine_silent, verdict_append, given_verdict}
@@ -30,12 +29,13 @@ use Rattle.calls.proofs.Silent.{enter_known}
 use Rattle.calls.proofs.Refused.{why_verdict}
 use Rattle.calls.proofs.Checked.{Whole, check_enters, check_cases}
 use Rattle.calls.proofs.Ranges.{faulty_few}
+use Rattle.std.specs.Prelude.{Ok, Err}
 
 abbrev pub Small : Verdict → Type 0
 Small v = (number_of v < 2 ^ 8) × (side_of v < 2 ^ 8) × (row_of v < 2 ^ 16)
 
 abbrev SmallLine : Check → Type 0
-SmallLine c = (c.number < 2 ^ 8) × (c.side < 2 ^ 8) × (c.row < 2 ^ 16)
+SmallLine c = Small (Err c.refuses)
 
 abbrev SmallLines : List Check → Type 0
 SmallLines [] = Unit {0}
@@ -46,7 +46,7 @@ SmallLines (c ∷ cs) = SmallLine c × SmallLines cs
 fine_small : Small Fine
 fine_small = (omega arith, omega arith, omega arith)
 
-chosen_small : (t : Bool) (c : Check) (v : Verdict) → SmallLine c → Small v → Small (cond t (Refused c.number c.side c.row) v)
+chosen_small : (t : Bool) (c : Check) (v : Verdict) → SmallLine c → Small v → Small (cond t (Err c.refuses) v)
 chosen_small true c v h g = h
 chosen_small false c v h g = g
 
@@ -55,8 +55,8 @@ lines_small [] h = fine_small
 lines_small (c ∷ cs) h = chosen_small c.applies c (verdict_of cs) h.0 (lines_small cs h.1)
 
 then_small : (v w : Verdict) → Small v → (v ≡ Fine → Small w) → Small (and_then v w)
-then_small Fine w h g = g refl
-then_small (Refused n s r) w h g = h
+then_small (Ok tt) w h g = g refl
+then_small (Err r) w h g = h
 
 -- lines of which the later are small where the earlier are silent
 joined_small : (cs ds : List Check) → Small (verdict_of cs) → (verdict_of cs ≡ Fine → Small (verdict_of ds)) → Small (verdict_of (cs ++ ds))
@@ -69,32 +69,39 @@ line h side = (h, side, omega arith)
 none : {n : ℕ} → n < 2 ^ 8 → (n < 2 ^ 8) × (0 < 2 ^ 8) × (0 < 2 ^ 16)
 none h = line h (omega arith)
 
+side_small : (side : Side) → side_number side < 2 ^ 8
+side_small Writer = omega arith
+side_small Reader = omega arith
+
 -- ---- refusals 1 to 8
 
-module _ (bs : List ℕ) (s : ℕ) (side : s < 2 ^ 8) where
-  header_small : Small (verdict_of (header_checks bs s))
+module _ (bs : List ℕ) (side : Side) where
+  named : side_number side < 2 ^ 8
+  named = side_small side
+
+  header_small : Small (verdict_of (header_checks bs side))
   unfolding header_checks
   header_small =
-      lines_small (header_checks bs s) (
-        line (omega arith) side,
-        (line (omega arith) side, (line (omega arith) side, (line (omega arith) side, (line (omega arith) side, (line (omega arith) side, tt))))),
+      lines_small (header_checks bs side) (
+        line (omega arith) named,
+        (line (omega arith) named, (line (omega arith) named, (line (omega arith) named, (line (omega arith) named, (line (omega arith) named, tt))))),
       )
 
   -- past 5 there are at most 64 rows
-  rows_few : verdict_of (header_checks bs s) ≡ Fine → rows_in bs ≤ 64
+  rows_few : verdict_of (header_checks bs side) ≡ Fine → rows_in bs ≤ 64
   unfolding header_checks
-  rows_few e = (range_of bs (fine_silent (header_checks bs s) e).1.1.1.1.0).4
+  rows_few e = (range_of bs (fine_silent (header_checks bs side) e).1.1.1.1.0).4
 
-  rows_small : rows_in bs ≤ 64 → Small (verdict_of (row_checks bs s))
+  rows_small : rows_in bs ≤ 64 → Small (verdict_of (row_checks bs side))
   unfolding row_checks
   rows_small few =
-      lines_small (row_checks bs s) (
-        (omega arith, side, omega (arith, first_le (bad_row bs) (rows_in bs))),
-        ((omega arith, side, omega (arith, first_le (fall_row bs) (rows_in bs))), tt),
+      lines_small (row_checks bs side) (
+        (omega arith, named, omega (arith, first_le (bad_row bs) (rows_in bs))),
+        ((omega arith, named, omega (arith, first_le (fall_row bs) (rows_in bs))), tt),
       )
 
-  checks_small : Small (verdict_of (checks bs s))
-  checks_small = joined_small (header_checks bs s) (row_checks bs s) header_small (λ e. rows_small (rows_few e))
+  checks_small : Small (verdict_of (checks bs side))
+  checks_small = joined_small (header_checks bs side) (row_checks bs side) header_small (λ e. rows_small (rows_few e))
 
 -- ---- the calls
 
@@ -102,9 +109,9 @@ module _ (k : Call) where
   begin_small : Small (verdict_of (begin_checks k))
   begin_small =
       let bound : List Check = bound_check k.bound ∷ [] in
-      joined_small (checks k.writer (side_number Writer)) (checks k.reader (side_number Reader) ++ bound) (checks_small k.writer 1 (omega arith))
+      joined_small (checks k.writer Writer) (checks k.reader Reader ++ bound) (checks_small k.writer Writer)
       (λ _.
-      joined_small (checks k.reader (side_number Reader)) bound (checks_small k.reader 2 (omega arith))
+      joined_small (checks k.reader Reader) bound (checks_small k.reader Reader)
       (λ _. lines_small bound (none (omega arith), tt)))
 
   enter_small : Small (verdict_of (enter_checks k))
@@ -118,9 +125,9 @@ module _ (k : Call) where
       (joined_small (enter_checks k) (builds_checks (pair_of k) before) enter_small (λ _. lines_small (builds_checks (pair_of k) before) (none (omega arith), tt)))
     where
       go : (v : Verdict) → Small v → given v (Untouched before after b) (Made (pair_of k) before after b) → Small b.verdict
-      go Fine h (inl p) = subst Small (sym p.verdict) fine_small
-      go Fine h (inr p) = subst Small (sym p.verdict) (none (omega arith))
-      go (Refused n s r) h p = subst Small (sym (ap (λ (x : Built). x.verdict) p.0)) h
+      go (Ok tt) h (inl p) = subst Small (sym p.verdict) fine_small
+      go (Ok tt) h (inr p) = subst Small (sym p.verdict) (none (omega arith))
+      go (Err r) h p = subst Small (sym (ap (λ (x : Built). x.verdict) p.0)) h
 
   ask_checks_small : (bytes : List ℕ) (c : Conf) → Small (verdict_of (ask_checks k bytes c))
   ask_checks_small bytes c =
@@ -152,7 +159,7 @@ module _ (k : Call) where
   checked_small list v says =
       check_cases k list v (Small v) says
       (λ whole m. judged whole m)
-      (λ n s r e u. subst Small (e ∙ sym u) (check_checks_small list))
+      (λ r e u. subst Small (e ∙ sym u) (check_checks_small list))
     where
       row_small : Whole k list → (c : Conf) → LowestFaulty (pair_of k) (Permits (pair_of k) list) c → place (pair_of k) c < 2 ^ 16
       row_small whole c l = omega (arith, faulty_few (pair_of k) (enter_known k (check_enters k list whole)) (Permits (pair_of k) list) c l.faulty)

@@ -7,9 +7,7 @@ use mathlib.Core.Path.{◌≡◌, refl, sym, ap, ◌∙◌, subst}
 use mathlib.Core.List.{List, [], ◌∷◌, ◌++◌, append_assoc, append-nil}
 use lib.ListN.{length, take}
 use Rattle.format.specs.declared.Row.{Row}
-use Rattle.format.specs.declared.Verdict.{Verdict}
-use Rattle.format.specs.declared.Verdict.TheVariants.{Fine, Refused}
-use Rattle.format.specs.Verdicts.{verdict_of}
+use Rattle.format.specs.Verdicts.{Verdict, Fine, verdict_of}
 use Rattle.rules.specs.declared.Conf.{Conf}
 use Rattle.rules.specs.declared.Pair.{Pair}
 use Rattle.rules.specs.Configurations.{Within, size, Outcome, after, start, finish}
@@ -38,6 +36,7 @@ use Rattle.calls.proofs.After.{run_held, run_good, good_after, mark_after}
 use Rattle.calls.proofs.Accepted.{step_keeps, step_accepts}
 use Rattle.calls.proofs.Refused.{step_returns}
 use Rattle.calls.proofs.StepSays.{PastLetters, refused_because}
+use Rattle.std.specs.Prelude.{Ok, Err}
 
 no_items : (l : List ℕ) → length l ≡ 0 → l ≡ []
 no_items [] e = refl
@@ -69,8 +68,8 @@ module _ (k : Call) (bytes : List ℕ) where
       go : ((v : Run) → Stands v → WalkKeeps v (walk k bytes cs v))
           → (v : Verdict) → it.verdict ≡ v
           → WalkKeeps u (go_on v u (more (accepted_in X u c) (delivered_by it) (walk k bytes cs it.run)))
-      go rest (Refused n d r) e = record { stands_at = s; in_order = sym (append-nil (held_of u)) }
-      go rest Fine e =
+      go rest (Err r) e = record { stands_at = s; in_order = sym (append-nil (held_of u)) }
+      go rest (Ok tt) e =
           let s = step_keeps k bytes u c e in
           let h = rest it.run (record { good = s.good; kept = s.lands }) in
           let w : Walked = walk k bytes cs it.run in

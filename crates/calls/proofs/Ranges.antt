@@ -7,16 +7,16 @@ use mathlib.Core.Logic.{inl, inr}
 use mathlib.Core.List.{List}
 use lib.Count.{ones-le, trailing_le}
 use Rattle.lists.proofs.Products.{total_few}
-use Rattle.format.specs.declared.Verdict.{Verdict}
-use Rattle.format.specs.declared.Verdict.TheVariants.{Fine, Refused}
-use Rattle.format.specs.Verdicts.{verdict_of, given}
+use Rattle.format.specs.Verdicts.{Verdict, verdict_of, given}
 use Rattle.rules.specs.declared.Pair.{Pair}
 use Rattle.rules.specs.declared.Conf.{Conf}
 use Rattle.rules.specs.Configurations.{size, place}
 use Rattle.rules.specs.Ways.{Moves}
 use Rattle.rules.specs.Permissions.{Faulty}
 use Rattle.rules.specs.Kept.{kept_count}
-use Rattle.rules.specs.Reasons.{Reason, Allowed, NotKept, NoWriterRow, NoReaderRow, Overflows, Underflows, LandsOutside, reason_number}
+use Rattle.rules.specs.declared.Reason.{Reason}
+use Rattle.rules.specs.declared.Reason.TheVariants.{Allowed, NotKept, NoWriterRow, NoReaderRow, Overflows, Underflows, LandsOutside}
+use Rattle.rules.specs.Numbers.{reason_number}
 use Rattle.rules.proofs.Places.{place_in}
 use Rattle.rules.proofs.Bytes.{kept_few}
 use Rattle.rules.proofs.Laws.{rounds_between}
@@ -34,6 +34,7 @@ use Rattle.calls.proofs.Asking.{set_below}
 use Rattle.calls.proofs.Largest.{build_cases, build_enters}
 use Rattle.calls.proofs.Refused.{why_returns}
 use Rattle.calls.proofs.WhySays.{why_found}
+use Rattle.std.specs.Prelude.{Ok, Err}
 
 -- "There are N = n1 × n2 × (B+1) of them, at most 4,096"
 pub size_few : (X : Pair) → Entered X → size X ≤ 4096
@@ -59,7 +60,7 @@ pub built_few : (k : Call) (before after : List ℕ) (b : Built) → BuildSays k
 built_few k before after b says =
     build_cases k before after b (Few b) says
     (λ fine made. made_few (pair_of k) (enter_known k (build_enters k before fine)) made)
-    (λ n s r e u. (omega (arith, ap (λ (x : Built). x.kept) u.0), omega (arith, ap (λ (x : Built). x.rounds) u.0)))
+    (λ r e u. (omega (arith, ap (λ (x : Built). x.kept) u.0), omega (arith, ap (λ (x : Built). x.rounds) u.0)))
 
 -- ---- ask
 
@@ -74,8 +75,8 @@ asked_few k bytes c = go (verdict_of (ask_checks k bytes c))
     set = move_set (pair_of k) bytes c
 
     go : (v : Verdict) → FewMoves (given v unanswered (answered set))
-    go Fine = (ones-le 64 set (set_below (pair_of k) bytes c), trailing_le 64 set)
-    go (Refused n s r) = (omega arith, omega arith)
+    go (Ok tt) = (ones-le 64 set (set_below (pair_of k) bytes c), trailing_le 64 set)
+    go (Err r) = (omega arith, omega arith)
 
 -- ---- why
 
@@ -95,8 +96,8 @@ explained_few k bytes c x y = go why.verdict refl
     why = why_of k bytes c x y
 
     go : (v : Verdict) → why.verdict ≡ v → why.reason ≤ 6
-    go Fine e = let found = why_found k bytes c x y e in omega (arith, found.1, reason_few found.0)
-    go (Refused n s r) e = omega (arith, ap (λ (z : Explained). z.reason) (why_returns k bytes c x y e))
+    go (Ok tt) e = let found = why_found k bytes c x y e in omega (arith, found.1, reason_few found.0)
+    go (Err r) e = omega (arith, ap (λ (z : Explained). z.reason) (why_returns k bytes c x y e))
 
 -- ---- check
 

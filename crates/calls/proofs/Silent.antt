@@ -12,8 +12,7 @@ use Rattle.lists.specs.Search.{some}
 use Rattle.lists.proofs.Bools.{true_is, and_left, and_right, or_none}
 use Rattle.lists.proofs.Search.{some_none, none_some}
 use Rattle.format.specs.declared.Side.TheVariants.{Writer, Reader}
-use Rattle.format.specs.declared.Verdict.TheVariants.{Fine}
-use Rattle.format.specs.Verdicts.{side_number, Check, verdict_of}
+use Rattle.format.specs.Verdicts.{Fine, Check, verdict_of}
 use Rattle.format.specs.Format.{byte, version_in, length_in}
 use Rattle.format.specs.Reads.{checks, read_of}
 use Rattle.format.proofs.Verdicts.{fine_front, fine_goes_on, fine_silent, verdict_append, then_none, given_fine}
@@ -43,16 +42,16 @@ module _ (k : Call) (entered : verdict_of (enter_checks k) ≡ Fine) where
   fine = fine_front (begin_checks k) (rule_check k.rule ∷ []) entered
 
   abbrev reader_checks : List Check
-  reader_checks = checks k.reader (side_number Reader)
+  reader_checks = checks k.reader Reader
 
   abbrev bound_checks : List Check
   bound_checks = bound_check k.bound ∷ []
 
-  writer_fine : verdict_of (checks k.writer (side_number Writer)) ≡ Fine
-  writer_fine = fine_front (checks k.writer (side_number Writer)) (reader_checks ++ bound_checks) fine
+  writer_fine : verdict_of (checks k.writer Writer) ≡ Fine
+  writer_fine = fine_front (checks k.writer Writer) (reader_checks ++ bound_checks) fine
 
   rest_fine : verdict_of (reader_checks ++ bound_checks) ≡ Fine
-  rest_fine = fine_goes_on (checks k.writer (side_number Writer)) (reader_checks ++ bound_checks) writer_fine ∙ fine
+  rest_fine = fine_goes_on (checks k.writer Writer) (reader_checks ++ bound_checks) writer_fine ∙ fine
 
   reader_fine : verdict_of reader_checks ≡ Fine
   reader_fine = fine_front reader_checks bound_checks rest_fine

@@ -11,14 +11,14 @@ use borrow.Author.Tests.{lt-leb, leb-false}
 use Rattle.lists.proofs.Bools.{is_true, true_is}
 use Rattle.lists.proofs.Rest.{le_or_lt}
 use Rattle.format.specs.declared.Table.{Table}
-use Rattle.format.specs.declared.Verdict.{Verdict}
-use Rattle.format.specs.declared.Verdict.TheVariants.{Fine, Refused}
-use Rattle.format.specs.Verdicts.{number_of, side_of, row_of, verdict_of}
+use Rattle.format.specs.Verdicts.{Verdict, Fine, Refused, number_of, side_of, row_of, verdict_of}
 use Rattle.format.specs.Good.{row, Good}
 use Rattle.format.proofs.Verdicts.{fine_goes_on}
 use Rattle.rules.specs.declared.Pair.{Pair}
 use Rattle.rules.specs.Sets.{AllowedIn}
-use Rattle.rules.specs.Reasons.{Reason, reason_number, ReasonIs}
+use Rattle.rules.specs.Reasons.{ReasonIs}
+use Rattle.rules.specs.declared.Reason.{Reason}
+use Rattle.rules.specs.Numbers.{reason_number}
 use Rattle.rules.specs.Kept.{KeptAt}
 use Rattle.rules.specs.Tools.Computed.{row_with, reason_of, allowed_test}
 use Rattle.rules.proofs.Reasons.{same_number, allowed_none, one_reason, zero_allowed}
@@ -33,6 +33,9 @@ use Rattle.calls.specs.Step.{HasRow, writer_found, reader_found, open_checks, tu
 use Rattle.calls.specs.Past.{Askable}
 use Rattle.calls.proofs.Silent.{enter_known, open_known}
 use Rattle.calls.proofs.Accepted.{step_verdict, taken_found}
+use Rattle.std.specs.Prelude.{None, Some}
+use Rattle.format.specs.declared.Side.TheVariants.{Writer, Reader}
+use Rattle.format.specs.declared.Fault.TheVariants.{NotAllowed, NoRow}
 
 -- both sides: the row that is looked for is there exactly if the table has one
 module _ (t : Table) (good : Good t) (state letter answer : ℕ) where
@@ -56,7 +59,7 @@ module _ (t : Table) (good : Good t) (state letter answer : ℕ) where
 -- ---- the verdict by three tests, with n the row of 15
 
 chosen : ℕ → Bool → Bool → Bool → Verdict
-chosen n out no_writer no_reader = cond out (Refused 15 0 n) (cond no_writer (Refused 16 1 0) (cond no_reader (Refused 16 2 0) Fine))
+chosen n out no_writer no_reader = cond out (Refused NotAllowed None n) (cond no_writer (Refused NoRow (Some Writer) 0) (cond no_reader (Refused NoRow (Some Reader) 0) Fine))
 
 differs : {v w : Verdict} → v ≡ w → (number_of v ≡ number_of w → side_of v ≡ side_of w → ⊥) → ⊥
 differs e f = f (ap number_of e) (ap side_of e)
@@ -67,13 +70,13 @@ not_15 n true r e = omega arith
 not_15 n false true e = omega arith
 not_15 n false false e = omega arith
 
-not_16_writer : (n : ℕ) (o r : Bool) → chosen n o false r ≡ Refused 16 1 0 → ⊥
+not_16_writer : (n : ℕ) (o r : Bool) → chosen n o false r ≡ Refused NoRow (Some Writer) 0 → ⊥
 unfolding chosen
 not_16_writer n true r e = differs e (λ n s. omega arith)
 not_16_writer n false true e = differs e (λ n s. omega arith)
 not_16_writer n false false e = differs e (λ n s. omega arith)
 
-not_16_reader : (n : ℕ) (o w : Bool) → chosen n o w false ≡ Refused 16 2 0 → ⊥
+not_16_reader : (n : ℕ) (o w : Bool) → chosen n o w false ≡ Refused NoRow (Some Reader) 0 → ⊥
 unfolding chosen
 not_16_reader n true w e = differs e (λ n s. omega arith)
 not_16_reader n false true e = differs e (λ n s. omega arith)
@@ -162,7 +165,7 @@ module _ (k : Call) (bytes : List ℕ) (u : Run) (c : Cycle) where
     in_verdict : Allowed → verdict ≡ chosen (reason_number reason) false no_writer no_reader
     in_verdict a = verdict_is ∙ ap (λ (b : Bool). chosen (reason_number reason) b no_writer no_reader) (in_of a)
 
-    out_verdict : ¬ Allowed → verdict ≡ Refused 15 0 (reason_number reason)
+    out_verdict : ¬ Allowed → verdict ≡ Refused NotAllowed None (reason_number reason)
     unfolding chosen
     out_verdict none = verdict_is ∙ rw (out_of none)
 
@@ -172,11 +175,11 @@ module _ (k : Call) (bytes : List ℕ) (u : Run) (c : Cycle) where
       λ none. ap number_of (out_verdict none),
     )
 
-    pub refused_because : ¬ Allowed → (because : Reason) × Why because × (verdict ≡ Refused 15 0 (reason_number because))
+    pub refused_because : ¬ Allowed → (because : Reason) × Why because × (verdict ≡ Refused NotAllowed None (reason_number because))
     refused_because none = (reason, reason_is, out_verdict none)
 
     -- "A step that is refused with 15 carries it in the row field": the row is the number of the reason, and the reason is not 0
-    pub fifteen_reason : (because : Reason) → (verdict ≡ Refused 15 0 (reason_number because)) ↔ (Why because × (1 ≤ reason_number because))
+    pub fifteen_reason : (because : Reason) → (verdict ≡ Refused NotAllowed None (reason_number because)) ↔ (Why because × (1 ≤ reason_number because))
     fifteen_reason because = (
       λ e.
           let none : ¬ Allowed = fifteen.0 (ap number_of e) in
@@ -191,10 +194,10 @@ module _ (k : Call) (bytes : List ℕ) (u : Run) (c : Cycle) where
       λ h.
           let same : reason ≡ because = one_reason X (KeptAt X bytes) (conf_of u) _ _ reason because reason_is h.0 in
           out_verdict (λ a. allowed_none X (KeptAt X bytes) (conf_of u) _ _ a because h.1 h.0.applies)
-          ∙ ap (λ (z : Reason). Refused 15 0 (reason_number z)) same,
+          ∙ ap (λ (z : Reason). Refused NotAllowed None (reason_number z)) same,
     )
 
-    pub sixteen_writer : Allowed → (verdict ≡ Refused 16 1 0) ↔ (¬ WriterRow)
+    pub sixteen_writer : Allowed → (verdict ≡ Refused NoRow (Some Writer) 0) ↔ (¬ WriterRow)
     unfolding chosen
     sixteen_writer a = (
       λ e w.
@@ -203,7 +206,7 @@ module _ (k : Call) (bytes : List ℕ) (u : Run) (c : Cycle) where
       λ none. in_verdict a ∙ rw (writer_missing none),
     )
 
-    pub sixteen_reader : Allowed → WriterRow → (verdict ≡ Refused 16 2 0) ↔ (¬ ReaderRow)
+    pub sixteen_reader : Allowed → WriterRow → (verdict ≡ Refused NoRow (Some Reader) 0) ↔ (¬ ReaderRow)
     unfolding chosen
     sixteen_reader a w = (
       λ e r.

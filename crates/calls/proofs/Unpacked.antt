@@ -4,8 +4,7 @@ use Prim.Native.Nat.{ℕ, ◌/◌, ◌%◌, ◌^◌, ◌<◌}
 use native.Mathlib.Omega.{arith}
 use mathlib.Core.Path.{◌≡◌, sym, ap, ◌∙◌, subst}
 use mathlib.Core.List.{List}
-use Rattle.format.specs.declared.Verdict.{Verdict}
-use Rattle.format.specs.Verdicts.{number_of, side_of, row_of}
+use Rattle.format.specs.Verdicts.{Verdict, number_of, side_of, row_of}
 use Rattle.rules.specs.declared.Conf.{Conf}
 use Rattle.calls.specs.declared.Built.{Built}
 use Rattle.calls.specs.declared.Asked.{Asked}

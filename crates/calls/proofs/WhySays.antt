@@ -6,14 +6,16 @@ use mathlib.Core.Path.{◌≡◌, sym, ap, ◌∙◌, subst}
 use mathlib.Core.Logic.Iff
 use mathlib.Core.Logic.{◌↔◌}
 use mathlib.Core.List.{List}
-use Rattle.format.specs.declared.Verdict.TheVariants.{Fine, Refused}
-use Rattle.format.specs.Verdicts.{verdict_of}
+use Rattle.format.specs.Verdicts.{Fine, Refused, verdict_of}
 use Rattle.format.proofs.Verdicts.{fine_front, fine_goes_on}
 use Rattle.rules.specs.declared.Pair.{Pair}
 use Rattle.rules.specs.declared.Conf.{Conf}
 use Rattle.rules.specs.Configurations.{move_of}
 use Rattle.rules.specs.Sets.{AllowedIn}
-use Rattle.rules.specs.Reasons.{Reason, Allowed, reason_number, ReasonIs}
+use Rattle.rules.specs.Reasons.{ReasonIs}
+use Rattle.rules.specs.declared.Reason.{Reason}
+use Rattle.rules.specs.declared.Reason.TheVariants.{Allowed}
+use Rattle.rules.specs.Numbers.{reason_number}
 use Rattle.rules.specs.Kept.{KeptAt}
 use Rattle.rules.specs.Tools.Computed.{reason_of}
 use Rattle.rules.proofs.Reasons.{same_number, one_reason, allowed_zero}
@@ -34,6 +36,8 @@ use Rattle.calls.proofs.Asking.{ask_done}
 use Rattle.calls.proofs.Refused.{why_verdict}
 use Rattle.calls.proofs.AskSays.{ask_bit}
 use Rattle.calls.proofs.StepSays.{PastLetters, fifteen_reason}
+use Rattle.std.specs.Prelude.{None}
+use Rattle.format.specs.declared.Fault.TheVariants.{NotAllowed}
 
 module _ (k : Call) (bytes : List ℕ) (c : Conf) (x y : ℕ) where
   abbrev X : Pair
@@ -104,6 +108,6 @@ module _ (k : Call) (bytes : List ℕ) (u : Run) (c : Cycle) (past : PastLetters
       ∙ sym (fine_goes_on (asks_checks Y bytes (conf_of u)) (letter_checks Y x y) (ask_silent Y bytes (conf_of u) able))
       ∙ letters_silent Y x y past.writer_letter past.reader_letter
 
-  pub step_why : (because : Reason) → (step_of k bytes u c).verdict ≡ Refused 15 0 (reason_number because) → asked.reason ≡ reason_number because
+  pub step_why : (because : Reason) → (step_of k bytes u c).verdict ≡ Refused NotAllowed None (reason_number because) → asked.reason ≡ reason_number because
   step_why because e =
       (why_reason k bytes (conf_of u) c.writer_letter c.reader_letter why_done because).1 ((fifteen_reason k bytes u c past because).0 e).0

@@ -2,12 +2,11 @@
 -- none); over the 0/1 bytes the caller lends, built by us or not. A refusal returns set 0, count 0, lowest 64."
 -- `allowed_test` is the test of a move that computes; that it says `AllowedIn` is proved: ask_bit in proofs/AskSays.antt.
 -- Assumes nothing.
-use Rattle.std.specs.Prelude.{ℕ, ◌/◌, ◌%◌, Bool, List, [], ◌∷◌, ◌++◌}
+use Rattle.std.specs.Prelude.{ℕ, ◌/◌, ◌%◌, Bool, List, [], ◌∷◌, ◌++◌, Err}
 use Rattle.std.specs.Int.Count.{ones, count_trailing_zeros}
 use Rattle.lists.specs.Bits.{number}
-use Rattle.format.specs.declared.Verdict.{Verdict}
-use Rattle.format.specs.declared.Verdict.TheVariants.{Fine}
-use Rattle.format.specs.Verdicts.{Check, verdict_of, given}
+use Rattle.format.specs.declared.Refusal.{Refusal}
+use Rattle.format.specs.Verdicts.{Fine, Check, verdict_of, given}
 use Rattle.rules.specs.declared.Conf.{Conf}
 use Rattle.rules.specs.declared.Pair.{Pair}
 use Rattle.rules.specs.Configurations.{size}
@@ -29,16 +28,12 @@ move_set X bytes c = number (is_allowed X bytes c) 64
 abbrev pub answered : ℕ → Asked
 answered set = record { verdict = Fine; set = set; count = ones set; lowest = count_trailing_zeros 64 set }
 
-abbrev pub unanswered : Verdict → Asked
-unanswered verdict = record { verdict = verdict; set = 0; count = 0; lowest = 64 }
+abbrev pub unanswered : Refusal → Asked
+unanswered refusal = record { verdict = Err refusal; set = 0; count = 0; lowest = 64 }
 
 -- past 9 and 17: 10, 12, 13
 abbrev pub asks_checks : Pair → List ℕ → Conf → List Check
 asks_checks X bytes c = lent_checks (size X) bytes ++ (conf_check X c ∷ [])
-
-unfoldable pub asks_of : Pair → List ℕ → Conf → Asked
-unfolding move_set
-asks_of X bytes c = given (verdict_of (asks_checks X bytes c)) unanswered (answered (move_set X bytes c))
 
 abbrev pub ask_checks : Call → List ℕ → Conf → List Check
 ask_checks k bytes c = enter_checks k ++ asks_checks (pair_of k) bytes c

@@ -1,9 +1,8 @@
 -- Document 01: "Beginning a run takes two tables and B and gives the start with nothing held, or refuses (1 to 9) with all zero in the run
 -- beside the refusal's number, side and row." It takes no rule, and its answer is the same whatever the rule. Assumes nothing.
-use Rattle.std.specs.Prelude.{ℕ, []}
-use Rattle.format.specs.declared.Verdict.{Verdict}
-use Rattle.format.specs.declared.Verdict.TheVariants.{Fine}
-use Rattle.format.specs.Verdicts.{verdict_of, given}
+use Rattle.std.specs.Prelude.{ℕ, [], Err}
+use Rattle.format.specs.declared.Refusal.{Refusal}
+use Rattle.format.specs.Verdicts.{Fine, verdict_of, given}
 use Rattle.format.specs.Reads.{read_of}
 use Rattle.rules.specs.declared.Pair.{Pair}
 use Rattle.rules.specs.Configurations.{start, conf_with}
@@ -23,8 +22,8 @@ abbrev pub start_run : Pair → Run
 start_run X = run_at (start X) []
 
 -- all zero in the run
-abbrev pub not_begun : Verdict → Begun
-not_begun verdict = record { verdict = verdict; run = empty_at 0 0 }
+abbrev pub not_begun : Refusal → Begun
+not_begun refusal = record { verdict = Err refusal; run = empty_at 0 0 }
 
 abbrev pub begun : Pair → Begun
 begun X = record { verdict = Fine; run = start_run X }

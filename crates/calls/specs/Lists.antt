@@ -1,13 +1,14 @@
 -- Request c, a permission list in bytes: "version byte 1, 16-bit count of bytes after byte 2, then for each of the N configurations eight bytes,
 -- big-endian, the set of moves it permits". Version and count stand where those of a table stand.
 -- Assumes nothing: past the end of the bytes stands 0.
-use Rattle.std.specs.Prelude.{ℕ, zero, suc, ◌+◌, ◌*◌, ◌<◌, Bool, not, ◌||◌, List, length, T, eqb, ltb}
+use Rattle.std.specs.Prelude.{ℕ, zero, suc, ◌+◌, ◌*◌, ◌<◌, Bool, not, ◌||◌, List, length, T, eqb, ltb, None}
 use Rattle.lists.specs.Masks.{has_bit}
 use Rattle.format.specs.Format.{byte, version_in, length_in}
 use Rattle.format.specs.Verdicts.{Check, when}
 use Rattle.rules.specs.declared.Conf.{Conf}
 use Rattle.rules.specs.declared.Pair.{Pair}
 use Rattle.rules.specs.Configurations.{place, move_of}
+use Rattle.format.specs.declared.Fault.TheVariants.{UntrueList}
 
 -- the number that n bytes write from `at` on, big-endian
 abbrev pub big_endian : List ℕ → ℕ → ℕ → ℕ
@@ -33,4 +34,4 @@ list_wrong n list =
     || not (eqb (length_in list) (8 * n))))
 
 abbrev pub list_check : ℕ → List ℕ → Check
-list_check n list = when 18 0 0 (list_wrong n list)
+list_check n list = when UntrueList None 0 (list_wrong n list)

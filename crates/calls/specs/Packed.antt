@@ -2,8 +2,7 @@
 -- 2^48 × rounds, with ask's count and lowest in the last two places." Why has its reason in the place of kept, and 0 in the last.
 -- Assumes nothing.
 use Rattle.std.specs.Prelude.{ℕ, ◌+◌, ◌*◌, ◌^◌, ◌≡◌, List}
-use Rattle.format.specs.declared.Verdict.{Verdict}
-use Rattle.format.specs.Verdicts.{number_of, side_of, row_of}
+use Rattle.format.specs.Verdicts.{Verdict, number_of, side_of, row_of}
 use Rattle.calls.specs.declared.Asked.{Asked}
 use Rattle.calls.specs.declared.Built.{Built}
 use Rattle.calls.specs.declared.Explained.{Explained}

@@ -1,11 +1,13 @@
 -- Demand 3, of each point of a run: what holds where a walk stands, over the call's own arguments. Bytes past the first N are never looked at.
 -- Assumes nothing. (That it holds of every walk from `begin`'s run is proved: run_points in proofs/Points.antt.)
-use Rattle.std.specs.Prelude.{ℕ, ◌-◌, ◌≤◌, ◌<◌, ◌≡◌, List, [], ◌∷◌, ◌++◌, length, take}
+use Rattle.std.specs.Prelude.{ℕ, ◌-◌, ◌≤◌, ◌<◌, ◌≡◌, List, [], ◌∷◌, ◌++◌, length, take, None}
 use Rattle.format.specs.declared.Row.{Row}
-use Rattle.format.specs.declared.Verdict.TheVariants.{Fine, Refused}
+use Rattle.format.specs.Verdicts.{Fine, refusal}
 use Rattle.rules.specs.Configurations.{Outcome, finish, size}
 use Rattle.rules.specs.Sets.{AllowedIn}
-use Rattle.rules.specs.Reasons.{Reason, reason_number, ReasonIs}
+use Rattle.rules.specs.Reasons.{ReasonIs}
+use Rattle.rules.specs.declared.Reason.{Reason}
+use Rattle.rules.specs.Numbers.{reason_number}
 use Rattle.rules.specs.Kept.{KeptAt, kept_count}
 use Rattle.calls.specs.Call.{Call, pair_of}
 use Rattle.calls.specs.declared.Run.{Run}
@@ -13,6 +15,7 @@ use Rattle.calls.specs.declared.Cycle.{Cycle}
 use Rattle.calls.specs.Runs.{conf_of, held_of, run_at}
 use Rattle.calls.specs.Step.{done_by, refused_step, step_of}
 use Rattle.calls.specs.Walks.{Walked, walk}
+use Rattle.format.specs.declared.Fault.TheVariants.{NotAllowed}
 
 -- the cycle of the move x.y in which the sides take the rows w and r
 abbrev pub cycle_of : ℕ → ℕ → Row → Row → ℕ → Cycle
@@ -54,4 +57,4 @@ module _ (k : Call) (bytes : List ℕ) where
         → ¬ AllowedIn (pair_of k) (KeptAt (pair_of k) bytes) (conf_of w.run) c.writer_letter c.reader_letter
         → (reason : Reason)
         × ReasonIs (pair_of k) (KeptAt (pair_of k) bytes) (conf_of w.run) c.writer_letter c.reader_letter reason
-        × (step_of k bytes w.run c ≡ refused_step w.run (Refused 15 0 (reason_number reason)))
+        × (step_of k bytes w.run c ≡ refused_step w.run (refusal NotAllowed None (reason_number reason)))

@@ -1,18 +1,19 @@
 -- Document 01, step: "A step takes a run, kept bytes, two letters, the two answers seen and an incoming item." Its refusals in their order, and
 -- what it returns. Request b: 15 carries the reason of the move; that it is the one of the rules (`ReasonIs`) is proved: fifteen_reason in
 -- proofs/StepSays.antt. Assumes nothing.
-use Rattle.std.specs.Prelude.{ℕ, ◌≡◌, Bool, not, ◌||◌, List, [], ◌∷◌, ◌++◌, length, get_or, leb, eqb}
+use Rattle.std.specs.Prelude.{ℕ, ◌≡◌, Bool, not, ◌||◌, List, [], ◌∷◌, ◌++◌, length, get_or, leb, eqb, None, Some, Err}
 use Rattle.lists.specs.Search.{seek, some}
 use Rattle.format.specs.declared.Row.{Row}
 use Rattle.format.specs.declared.Table.{Table}
-use Rattle.format.specs.declared.Verdict.{Verdict}
-use Rattle.format.specs.declared.Verdict.TheVariants.{Fine}
-use Rattle.format.specs.Verdicts.{Check, when, verdict_of, given}
+use Rattle.format.specs.declared.Side.{Side}
+use Rattle.format.specs.declared.Side.TheVariants.{Writer, Reader}
+use Rattle.format.specs.declared.Refusal.{Refusal}
+use Rattle.format.specs.Verdicts.{Fine, Check, when, verdict_of, given}
 use Rattle.format.specs.Reads.{read_of}
 use Rattle.format.specs.Good.{row}
 use Rattle.rules.specs.declared.Pair.{Pair}
 use Rattle.rules.specs.Configurations.{May, size, after}
-use Rattle.rules.specs.Reasons.{reason_number}
+use Rattle.rules.specs.Numbers.{reason_number}
 use Rattle.rules.specs.Tools.Computed.{row_with, reason_of, allowed_test}
 use Rattle.calls.specs.Call.{Call, pair_of}
 use Rattle.calls.specs.Refusals.{enter_checks, lent_checks, in_range, letter_checks}
@@ -21,6 +22,7 @@ use Rattle.calls.specs.declared.Cycle.{Cycle}
 use Rattle.calls.specs.declared.Stepped.{Stepped}
 use Rattle.calls.specs.Items.{padded, delivered, held_after}
 use Rattle.calls.specs.Runs.{conf_of, held_at, held_of, run_at}
+use Rattle.format.specs.declared.Fault.TheVariants.{NoConfiguration, NotAllowed, NoRow}
 
 -- the items that wait at the writing side
 abbrev pub incoming_of : Cycle → List ℕ
@@ -44,18 +46,18 @@ nonzero items i = not (eqb (held_at items i) 0)
 
 -- configuration out of range, or a nonzero place at or past the level
 abbrev pub run_check : Pair → Run → Check
-run_check X u = when 13 0 0 (not (in_range X (conf_of u)) || some (nonzero u.items) u.level 16)
+run_check X u = when NoConfiguration None 0 (not (in_range X (conf_of u)) || some (nonzero u.items) u.level 16)
 
 -- move not allowed: "A step that is refused with 15 carries [the reason] in the row field" (request b)
 abbrev pub move_check : Pair → List ℕ → Run → Cycle → Check
 move_check X bytes u c =
     let x : ℕ = c.writer_letter in
     let y : ℕ = c.reader_letter in
-    when 15 0 (reason_number (reason_of X bytes (conf_of u) x y)) (not (allowed_test X bytes (conf_of u) x y))
+    when NotAllowed None (reason_number (reason_of X bytes (conf_of u) x y)) (not (allowed_test X bytes (conf_of u) x y))
 
 -- no row for that state, letter and answer
-abbrev pub row_check : Table → ℕ → ℕ → Check
-row_check t side found = when 16 side 0 (leb t.count found)
+abbrev pub row_check : Table → Side → ℕ → Check
+row_check t side found = when NoRow (Some side) 0 (leb t.count found)
 
 -- of the call, past 9 and 17: 10, 12, 13
 abbrev pub open_checks : Pair → List ℕ → Run → List Check
@@ -65,7 +67,7 @@ open_checks X bytes u = lent_checks (size X) bytes ++ (run_check X u ∷ [])
 abbrev pub turn_checks : Pair → List ℕ → Run → Cycle → List Check
 turn_checks X bytes u c =
     letter_checks X c.writer_letter c.reader_letter
-    ++ (move_check X bytes u c ∷ row_check X.writer 1 (writer_found X u c) ∷ row_check X.reader 2 (reader_found X u c) ∷ [])
+    ++ (move_check X bytes u c ∷ row_check X.writer Writer (writer_found X u c) ∷ row_check X.reader Reader (reader_found X u c) ∷ [])
 
 abbrev pub step_checks : Call → List ℕ → Run → Cycle → List Check
 step_checks k bytes u c = enter_checks k ++ (open_checks (pair_of k) bytes u ++ turn_checks (pair_of k) bytes u c)
@@ -91,13 +93,8 @@ done_of X u c = done_by u (row X.writer (writer_found X u c)) (row X.reader (rea
 -- ---- the call
 
 -- "A refused step returns the run given, item 0, mark 0"
-abbrev pub refused_step : Run → Verdict → Stepped
-refused_step u v = record { verdict = v; run = u; item = 0; mark = 0 }
-
--- what a cycle does, past the call's own checks
-unfoldable pub turn_of : Pair → List ℕ → Run → Cycle → Stepped
-unfolding seek reason_of allowed_test done_by
-turn_of X bytes u c = given (verdict_of (turn_checks X bytes u c)) (refused_step u) (done_of X u c)
+abbrev pub refused_step : Run → Refusal → Stepped
+refused_step u refusal = record { verdict = Err refusal; run = u; item = 0; mark = 0 }
 
 unfoldable pub step_of : Call → List ℕ → Run → Cycle → Stepped
 unfolding read_of seek reason_of allowed_test done_by

@@ -1,7 +1,6 @@
 -- A walk: single steps over a list of cycles, up to the first refusal. Assumes nothing.
-use Rattle.std.specs.Prelude.{ℕ, suc, List, [], ◌∷◌, ◌++◌, take}
-use Rattle.format.specs.declared.Verdict.{Verdict}
-use Rattle.format.specs.declared.Verdict.TheVariants.{Fine, Refused}
+use Rattle.std.specs.Prelude.{ℕ, suc, List, [], ◌∷◌, ◌++◌, take, Ok, Err}
+use Rattle.format.specs.Verdicts.{Verdict, Fine}
 use Rattle.format.specs.Good.{row}
 use Rattle.rules.specs.declared.Pair.{Pair}
 use Rattle.calls.specs.Call.{Call, pair_of}
@@ -43,8 +42,8 @@ more ins outs w =
     }
 
 abbrev pub go_on : Verdict → Run → Walked → Walked
-go_on Fine u w = w
-go_on (Refused number side row) u w = stands (Refused number side row) u
+go_on (Ok _) u w = w
+go_on (Err refusal) u w = stands (Err refusal) u
 
 unfoldable pub walk : Call → List ℕ → List Cycle → Run → Walked
 unfolding step_of

@@ -5,9 +5,7 @@ use mathlib.Core.Path.{◌≡◌, sym, ap, ◌∙◌}
 use mathlib.Core.Logic.Iff
 use mathlib.Core.Logic.{◌↔◌, ◌⊎◌, inl, inr, ⊎_elim}
 use mathlib.Core.List.{List}
-use Rattle.format.specs.declared.Verdict.{Verdict}
-use Rattle.format.specs.declared.Verdict.TheVariants.{Fine, Refused}
-use Rattle.format.specs.Verdicts.{number_of, row_of}
+use Rattle.format.specs.Verdicts.{Verdict, Fine, Refused, number_of, row_of}
 use Rattle.rules.specs.declared.Conf.{Conf}
 use Rattle.rules.specs.declared.Pair.{Pair}
 use Rattle.rules.specs.Configurations.{GoodPair, place}
@@ -29,6 +27,8 @@ use Rattle.demands.specs.Demands.{asks_bit}
 use Rattle.demands.specs.Checked.{Its, IsBridge, LowestAt, of_verdict, of_number, RequestC}
 use Rattle.demands.proofs.Results.{no_converter}
 use Rattle.demands.proofs.Demand3.{demand3}
+use Rattle.std.specs.Prelude.{None}
+use Rattle.format.specs.declared.Fault.TheVariants.{StartDropped, BadMovePermitted, NoWayToFinish}
 
 module _ (k : Call) (list : List ℕ) (v : Verdict) (says : CheckSays k list v) where
   abbrev X : Pair
@@ -60,7 +60,7 @@ module _ (k : Call) (list : List ℕ) (v : Verdict) (says : CheckSays k list v) 
         (demand3 k before after b built).others done (deciding X (Its k list)) fine_bridge met.0 c x y met.1 (c, meets_leads X _ met.1, p)
 
     -- where a list is accepted build does not say "no converter": the start is in the largest set
-    pub checked_converter : (before after : List ℕ) (b : Built) → BuildSays k before after b → ¬ (b.verdict ≡ Refused 11 0 0)
+    pub checked_converter : (before after : List ℕ) (b : Built) → BuildSays k before after b → ¬ (b.verdict ≡ Refused StartDropped None 0)
     checked_converter before after b built q =
         let none = (no_converter k before after b built q).0 in
         none.start_out (accepted_start X (Its k list) good fine_accepted (KeptAt X none.bytes) (answer_largest X good none.answer).largest)
@@ -71,13 +71,13 @@ module _ (k : Call) (list : List ℕ) (v : Verdict) (says : CheckSays k list v) 
 
   -- ---- a faulty place
 
-  bad_at : (p : ℕ) → v ≡ Refused 19 0 p → Whole k list × ((c : Conf) × LowestAt k list p c × PermitsBad X (Its k list) c)
+  bad_at : (p : ℕ) → v ≡ Refused BadMovePermitted None p → Whole k list × ((c : Conf) × LowestAt k list p c × PermitsBad X (Its k list) c)
   bad_at p e =
       let m = numbers.nineteen_bad (ap number_of e) in
       let is : place X m.1.at ≡ p = ap row_of (sym m.1.verdict ∙ e) in
       (m.0, (m.1.at, record { lowest = m.1.lowest; is_place = is }, m.1.bad))
 
-  stuck_at : (p : ℕ) → v ≡ Refused 20 0 p
+  stuck_at : (p : ℕ) → v ≡ Refused NoWayToFinish None p
       → Whole k list × ((c : Conf) × LowestAt k list p c × (¬ PermitsBad X (Its k list) c) × (¬ HasWay X (Its k list) c))
   stuck_at p e =
       let m = numbers.twenty_stuck (ap number_of e) in
@@ -85,7 +85,7 @@ module _ (k : Call) (list : List ℕ) (v : Verdict) (says : CheckSays k list v) 
       let stuck = faulty_stuck X (Its k list) m.1.at m.1.lowest.faulty m.1.not_bad in
       (m.0, (m.1.at, record { lowest = m.1.lowest; is_place = is }, m.1.not_bad, stuck))
 
-  named : (p : ℕ) → (v ≡ Refused 19 0 p) ⊎ (v ≡ Refused 20 0 p) → ¬ IsBridge k list
+  named : (p : ℕ) → (v ≡ Refused BadMovePermitted None p) ⊎ (v ≡ Refused NoWayToFinish None p) → ¬ IsBridge k list
   named p (inl e) = let m = bad_at p e in faulty_none X (Its k list) (check_good k list m.0) m.1.0 m.1.1.lowest.faulty
   named p (inr e) = let m = stuck_at p e in faulty_none X (Its k list) (check_good k list m.0) m.1.0 m.1.1.lowest.faulty
 
@@ -100,11 +100,11 @@ module _ (k : Call) (list : List ℕ) (v : Verdict) (says : CheckSays k list v) 
     bad_move = λ whole p. (
       λ e. (bad_at p e).1,
       λ m.
-          nineteen_first X list (check_good k list whole) m.0 m.1.lowest m.2 (check_judged k list v says whole) ∙ ap (Refused 19 0) m.1.is_place,
+          nineteen_first X list (check_good k list whole) m.0 m.1.lowest m.2 (check_judged k list v says whole) ∙ ap (Refused BadMovePermitted None) m.1.is_place,
     );
     no_way = λ whole p. (
       λ e. (stuck_at p e).1,
-      λ m. twenty_else X list (check_good k list whole) m.0 m.1.lowest m.2 (check_judged k list v says whole) ∙ ap (Refused 20 0) m.1.is_place,
+      λ m. twenty_else X list (check_good k list whole) m.0 m.1.lowest m.2 (check_judged k list v says whole) ∙ ap (Refused NoWayToFinish None) m.1.is_place,
     );
     no_bridge = named;
     ours = checked_ours;
@@ -126,19 +126,19 @@ module _ (k : Call) (list : List ℕ) (z : ℕ) (p : PackedCheck k list z) where
   accepts_same : (z % 2 ^ 8 ≡ 0) ↔ (v ≡ Fine)
   accepts_same = (λ e. codes.zero_done.0 (sym fields.number_is ∙ e), λ e. fields.number_is ∙ ap number_of e)
 
-  bad_same : (q : ℕ) → ((z % 2 ^ 8 ≡ 19) × (z / 2 ^ 16 % 2 ^ 16 ≡ q)) ↔ (v ≡ Refused 19 0 q)
+  bad_same : (q : ℕ) → ((z % 2 ^ 8 ≡ 19) × (z / 2 ^ 16 % 2 ^ 16 ≡ q)) ↔ (v ≡ Refused BadMovePermitted None q)
   bad_same q = (
     λ e.
         let said = (codes.nineteen_bad (sym fields.number_is ∙ e.0)).1.verdict in
-        said ∙ ap (Refused 19 0) (sym (ap row_of said) ∙ sym fields.row_is ∙ e.1),
+        said ∙ ap (Refused BadMovePermitted None) (sym (ap row_of said) ∙ sym fields.row_is ∙ e.1),
     λ e. (fields.number_is ∙ ap number_of e, fields.row_is ∙ ap row_of e),
   )
 
-  stuck_same : (q : ℕ) → ((z % 2 ^ 8 ≡ 20) × (z / 2 ^ 16 % 2 ^ 16 ≡ q)) ↔ (v ≡ Refused 20 0 q)
+  stuck_same : (q : ℕ) → ((z % 2 ^ 8 ≡ 20) × (z / 2 ^ 16 % 2 ^ 16 ≡ q)) ↔ (v ≡ Refused NoWayToFinish None q)
   stuck_same q = (
     λ e.
         let said = (codes.twenty_stuck (sym fields.number_is ∙ e.0)).1.verdict in
-        said ∙ ap (Refused 20 0) (sym (ap row_of said) ∙ sym fields.row_is ∙ e.1),
+        said ∙ ap (Refused NoWayToFinish None) (sym (ap row_of said) ∙ sym fields.row_is ∙ e.1),
     λ e. (fields.number_is ∙ ap number_of e, fields.row_is ∙ ap row_of e),
   )
 

@@ -5,8 +5,7 @@ use mathlib.Core.Path.{◌≡◌, sym, ap, ◌∙◌, subst}
 use mathlib.Core.Logic.{◌↔◌}
 use mathlib.Core.List.{List}
 use lib.ListN.{take}
-use Rattle.format.specs.declared.Verdict.TheVariants.{Fine, Refused}
-use Rattle.format.specs.Verdicts.{verdict_of}
+use Rattle.format.specs.Verdicts.{Fine, Refused, verdict_of}
 use Rattle.rules.specs.declared.Pair.{Pair}
 use Rattle.rules.specs.declared.Conf.{Conf}
 use Rattle.rules.specs.Configurations.{GoodPair, Within, start, size, move_of}
@@ -29,6 +28,8 @@ use Rattle.calls.proofs.Codes.{NumberedBuild, build_numbered}
 use Rattle.calls.proofs.Unpacked.{UnpackedBuilt, build_fields}
 use Rattle.demands.specs.Demands.{asks_bit, Demand2, RoundsTrue, of_built, of_packed}
 use Rattle.demands.proofs.Results.{accepted, no_converter, good, first_bytes, first_largest, start_kept}
+use Rattle.std.specs.Prelude.{None}
+use Rattle.format.specs.declared.Fault.TheVariants.{StartDropped}
 
 module _ (k : Call) (before after : List ℕ) (b : Built) (says : BuildSays k before after b) where
   abbrev X : Pair
@@ -95,7 +96,7 @@ module _ (k : Call) (before after : List ℕ) (z : ℕ) (p : PackedBuild k befor
   done_of : z % 2 ^ 8 ≡ 0 → p.built.verdict ≡ Fine
   done_of e = packed_reads.0.zero_done.0 (sym packed_reads.1.number_is ∙ e)
 
-  none_of : z % 2 ^ 8 ≡ 11 → p.built.verdict ≡ Refused 11 0 0
+  none_of : z % 2 ^ 8 ≡ 11 → p.built.verdict ≡ Refused StartDropped None 0
   none_of e = packed_reads.0.eleven_none.0 (sym packed_reads.1.number_is ∙ e)
 
   pub demand2_packed : Demand2 k after (of_packed z)

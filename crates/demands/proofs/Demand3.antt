@@ -5,8 +5,7 @@ use mathlib.Core.Path.{◌≡◌, sym, ◌∙◌}
 use mathlib.Core.Logic.{◌↔◌, inl, inr}
 use mathlib.Core.List.{List}
 use lib.ListN.{take}
-use Rattle.format.specs.declared.Verdict.TheVariants.{Fine, Refused}
-use Rattle.format.specs.Verdicts.{verdict_of}
+use Rattle.format.specs.Verdicts.{Fine, Refused, verdict_of}
 use Rattle.format.proofs.Verdicts.{refused_not_fine}
 use Rattle.rules.specs.declared.Conf.{Conf}
 use Rattle.rules.specs.declared.Pair.{Pair}
@@ -25,6 +24,8 @@ use Rattle.calls.specs.Packed.{PackedBuild}
 use Rattle.demands.specs.Demands.{asks_bit, Demand3, of_built, of_packed}
 use Rattle.demands.proofs.Results.{accepted, good, first_largest, start_kept}
 use Rattle.demands.proofs.Demand2.{moves_are, packed_reads}
+use Rattle.std.specs.Prelude.{None}
+use Rattle.format.specs.declared.Fault.TheVariants.{StartDropped}
 
 module _ (k : Call) (before after : List ℕ) (b : Built) (says : BuildSays k before after b) where
   abbrev X : Pair
@@ -53,7 +54,7 @@ module _ (k : Call) (before after : List ℕ) (b : Built) (says : BuildSays k be
         (moves_are k before after b says e Ours kept.largest c a.member.within x y hx hy).1 a
 
   -- by what build says of input that is well-formed and has room
-  none_iff : GoodPair X → Made X before after b → (b.verdict ≡ Refused 11 0 0) ↔ ((Permits : Bridge) → ¬ OtherBridge X Permits)
+  none_iff : GoodPair X → Made X before after b → (b.verdict ≡ Refused StartDropped None 0) ↔ ((Permits : Bridge) → ¬ OtherBridge X Permits)
   none_iff g (inl a) =
       let k = answer_largest X g a.answer in (
         λ e. absurd (refused_not_fine (sym e ∙ a.verdict)),

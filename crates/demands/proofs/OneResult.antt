@@ -16,7 +16,7 @@ use Rattle.calls.specs.Why.{why_of}
 use Rattle.calls.specs.declared.Built.{Built}
 use Rattle.calls.specs.Build.{BuildSays}
 use Rattle.calls.proofs.Largest.{one_result}
-use Rattle.format.specs.declared.Verdict.{Verdict}
+use Rattle.format.specs.Verdicts.{Verdict}
 use Rattle.calls.specs.Check.{CheckSays}
 use Rattle.calls.proofs.Checked.{check_one}
 use Rattle.calls.specs.declared.Run.{Run}

@@ -5,8 +5,7 @@ use mathlib.Core.Logic.{inl, inr}
 use mathlib.Core.List.{List}
 use lib.ListN.{take, drop}
 use lib.Seq.{take_at}
-use Rattle.format.specs.declared.Verdict.TheVariants.{Fine, Refused}
-use Rattle.format.specs.Verdicts.{verdict_of, number_of}
+use Rattle.format.specs.Verdicts.{Fine, Refused, verdict_of, number_of}
 use Rattle.format.proofs.Verdicts.{refused_not_fine}
 use Rattle.rules.specs.declared.Pair.{Pair}
 use Rattle.rules.specs.Configurations.{GoodPair, start, size}
@@ -17,6 +16,9 @@ use Rattle.calls.specs.Build.{Accepted, NoConverter, Untouched, Made, build_chec
 use Rattle.calls.proofs.Silent.{enter_good}
 use Rattle.calls.proofs.Codes.{checks_numbered}
 use Rattle.calls.proofs.Largest.{answer_largest, build_cases, build_enters}
+use Rattle.std.specs.Prelude.{None, Err}
+use Rattle.format.specs.declared.Fault.TheVariants.{StartDropped}
+use Rattle.format.specs.declared.Refusal.{Refusal}
 
 module _ (k : Call) (before : List ℕ) where
   abbrev X : Pair
@@ -28,24 +30,24 @@ module _ (k : Call) (before : List ℕ) where
   -- ---- by the verdict of the result
 
   module _ (after : List ℕ) (b : Built) (says : BuildSays k before after b) where
-    verdict_of_lem : {n s r : ℕ} → Untouched before after b (Refused n s r) → b.verdict ≡ Refused n s r
+    verdict_of_lem : {r : Refusal} → Untouched before after b r → b.verdict ≡ Err r
     verdict_of_lem u = ap (λ (z : Built). z.verdict) u.0
 
     pub accepted : b.verdict ≡ Fine → Accepted X before after b × Well
     accepted e =
         build_cases k before after b (Accepted X before after b × Well) says
         (λ fine made. (either made, fine))
-        (λ n s r q u. absurd (refused_not_fine (sym (verdict_of_lem u) ∙ e)))
+        (λ r q u. absurd (refused_not_fine (sym (verdict_of_lem u) ∙ e)))
       where
         either : Made X before after b → Accepted X before after b
         either (inl a) = a
         either (inr n) = absurd (refused_not_fine (sym n.verdict ∙ e))
 
-    pub no_converter : b.verdict ≡ Refused 11 0 0 → NoConverter X before after b × Well
+    pub no_converter : b.verdict ≡ Refused StartDropped None 0 → NoConverter X before after b × Well
     no_converter e =
         build_cases k before after b (NoConverter X before after b × Well) says
         (λ fine made. (either made, fine))
-        (λ n s r q u. absurd ((checks_numbered k before).not_eleven (ap number_of (q ∙ sym (verdict_of_lem u) ∙ e))))
+        (λ r q u. absurd ((checks_numbered k before).not_eleven (ap number_of (q ∙ sym (verdict_of_lem u) ∙ e))))
       where
         either : Made X before after b → NoConverter X before after b
         either (inl a) = absurd (refused_not_fine (sym e ∙ a.verdict))

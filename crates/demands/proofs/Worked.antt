@@ -7,9 +7,7 @@ use mathlib.Core.List.{List, ◌++◌, map, Memᴰ, head-eq_of_cons-eq, tail-eq_
 use lib.Dec.{eqb}
 use lib.ListN.{length, drop, replicate}
 use borrow.Author.Tests.{eqb-true, eqb-false}
-use Rattle.format.specs.declared.Verdict.{Verdict}
-use Rattle.format.specs.declared.Verdict.TheVariants.{Fine}
-use Rattle.format.specs.Verdicts.{verdict_of}
+use Rattle.format.specs.Verdicts.{Verdict, Fine, verdict_of}
 use Rattle.format.specs.Format.{byte}
 use Rattle.format.specs.Reads.{header_checks, row_checks, read_of}
 use Rattle.rules.specs.declared.Pair.{Pair}
@@ -130,7 +128,7 @@ module _ (k : Case) (fine : verdict_of (enter_checks k.call) ≡ Fine) where
             kept = sym count;
             buffer = rw says.size_is;
           })) in
-          rw h.0 (record { result = e.0; bytes = e.1 })
+          rw h.0 (record { number_is = rw e.0; result = e.0; bytes = e.1 })
       go (inr h) =
           let e = same (result_of 11 rounds' places) (replicate n 0 ++ drop n before) (inr (record {
             bytes = marks n places;
@@ -140,7 +138,7 @@ module _ (k : Case) (fine : verdict_of (enter_checks k.call) ≡ Fine) where
             kept = refl;
             buffer = rw says.size_is;
           })) in
-          rw h.0 (record { result = e.0; bytes = e.1 })
+          rw h.0 (record { number_is = rw e.0; result = e.0; bytes = e.1 })
 
   says : (q : Claim) → computed k q ≡ wanted k q → Says k q
   unfolding computed wanted

@@ -3,7 +3,9 @@
 use Rattle.std.specs.Prelude.{ℕ, zero, suc, ◌≤◌, ◌≡◌, ◌⊎◌, List, [], ◌∷◌, ◌++◌, eqb, length, drop, replicate}
 use Rattle.lists.specs.Lists.{any, tab_from, tab}
 use Rattle.lists.specs.Bits.{bit}
-use Rattle.format.specs.declared.Verdict.TheVariants.{Fine, Refused}
+use Rattle.format.specs.Verdicts.{Fine, Refused, number_of}
+use Rattle.std.specs.Prelude.{None}
+use Rattle.format.specs.declared.Fault.TheVariants.{StartDropped}
 use Rattle.rules.specs.declared.Conf.{Conf}
 use Rattle.rules.specs.declared.Pair.{Pair}
 use Rattle.rules.specs.Configurations.{GoodPair, start, size, conf_with}
@@ -87,16 +89,18 @@ pub record BuiltSays (X : Pair) (number rounds n : ℕ) (places : List ℕ) : Ty
 
 -- ---- and of the calls: any result that satisfies a call's contract
 
--- 0 is done, with the kept places in the buffer; 11 has none, and zero bytes
+-- 0 is done, with the kept places in the buffer; 11 has no converter, and zero bytes. (No other number stands in the table: `number_is` below,
+-- and `verdict` of `BuiltSays`, allow none.)
 abbrev pub result_of : ℕ → ℕ → List ℕ → Built
 result_of zero rounds places = record { verdict = Fine; kept = length places; rounds = rounds }
-result_of (suc number) rounds places = record { verdict = Refused (suc number) 0 0; kept = 0; rounds = rounds }
+result_of (suc number) rounds places = record { verdict = Refused StartDropped None 0; kept = 0; rounds = rounds }
 
 abbrev pub bytes_of : ℕ → ℕ → List ℕ → List ℕ
 bytes_of zero n places = marks n places
 bytes_of (suc number) n places = replicate n 0
 
 pub record BuildGives (k : Call) (number rounds n : ℕ) (places : List ℕ) (before after : List ℕ) (b : Built) : Type 0 where
+  pub number_is : number_of b.verdict ≡ number
   pub result : b ≡ result_of number rounds places
   pub bytes : after ≡ bytes_of number n places ++ drop n before
 

@@ -2,10 +2,8 @@
 -- accepts, and which place it names, is given as a caller reads it: off the verdict (`of_verdict`), or, as the generator does, off the packed number
 -- (`of_number`).
 -- Assumes nothing. That every result of check that satisfies its contract is so is proved: proofs/Checked.antt.
-use Rattle.std.specs.Prelude.{ℕ, ◌/◌, ◌%◌, ◌^◌, ◌≡◌, ◌↔◌, ◌⊎◌, List}
-use Rattle.format.specs.declared.Verdict.{Verdict}
-use Rattle.format.specs.declared.Verdict.TheVariants.{Fine, Refused}
-use Rattle.format.specs.Verdicts.{verdict_of}
+use Rattle.std.specs.Prelude.{ℕ, ◌/◌, ◌%◌, ◌^◌, ◌≡◌, ◌↔◌, ◌⊎◌, List, None}
+use Rattle.format.specs.Verdicts.{Verdict, Fine, Refused, verdict_of}
 use Rattle.rules.specs.declared.Conf.{Conf}
 use Rattle.rules.specs.declared.Pair.{Pair}
 use Rattle.rules.specs.Configurations.{place}
@@ -18,6 +16,7 @@ use Rattle.calls.specs.Build.{BuildSays}
 use Rattle.calls.specs.Lists.{Permits}
 use Rattle.calls.specs.Check.{check_checks}
 use Rattle.demands.specs.Demands.{asks_bit}
+use Rattle.format.specs.declared.Fault.TheVariants.{StartDropped, BadMovePermitted, NoWayToFinish}
 
 -- what a caller reads of a check: that it accepts, that it names a bad move at a place, that it names a place with no way to finish
 pub record ReadCheck : Type 1 where
@@ -26,7 +25,7 @@ pub record ReadCheck : Type 1 where
   pub NoWayAt : ℕ → Type 0
 
 abbrev pub of_verdict : Verdict → ReadCheck
-of_verdict v = record { Accepts = v ≡ Fine; BadMoveAt = λ p. v ≡ Refused 19 0 p; NoWayAt = λ p. v ≡ Refused 20 0 p }
+of_verdict v = record { Accepts = v ≡ Fine; BadMoveAt = λ p. v ≡ Refused BadMovePermitted None p; NoWayAt = λ p. v ≡ Refused NoWayToFinish None p }
 
 -- its lowest 8 bits are the number, 16 bits from 2^16 on the place
 abbrev pub of_number : ℕ → ReadCheck
@@ -69,4 +68,4 @@ module _ (k : Call) (list : List ℕ) where
     pub ours : r.Accepts → (before after : List ℕ) (b : Built) → BuildSays k before after b → b.verdict ≡ Fine
         → (c : Conf) (x y : ℕ) → Reached X Its c → Its c x y → asks_bit k after c x y
     -- and where a list is accepted build does not say "no converter"
-    pub converter : r.Accepts → (before after : List ℕ) (b : Built) → BuildSays k before after b → ¬ (b.verdict ≡ Refused 11 0 0)
+    pub converter : r.Accepts → (before after : List ℕ) (b : Built) → BuildSays k before after b → ¬ (b.verdict ≡ Refused StartDropped None 0)

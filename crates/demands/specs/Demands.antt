@@ -4,9 +4,8 @@
 -- Request a reads both with the rule named: it is a field of k, and so of the pair; another bridge is one for the same tables, bound and rule.
 -- (Demand 1 is each call's own contract, which has no `requires`: docs/PROMISES.md.)
 -- Assumes nothing. That every result of build that satisfies its contract meets the demands is proved: proofs/Demand2.antt, Demand3.antt.
-use Rattle.std.specs.Prelude.{ℕ, ◌/◌, ◌%◌, ◌^◌, ◌≤◌, ◌<◌, ◌≡◌, ◌↔◌, List, take}
-use Rattle.format.specs.declared.Verdict.TheVariants.{Fine, Refused}
-use Rattle.format.specs.Verdicts.{verdict_of}
+use Rattle.std.specs.Prelude.{ℕ, ◌/◌, ◌%◌, ◌^◌, ◌≤◌, ◌<◌, ◌≡◌, ◌↔◌, List, take, None}
+use Rattle.format.specs.Verdicts.{Fine, Refused, verdict_of}
 use Rattle.rules.specs.declared.Conf.{Conf}
 use Rattle.rules.specs.declared.Pair.{Pair}
 use Rattle.rules.specs.Configurations.{Within, start, size, move_of}
@@ -21,6 +20,7 @@ use Rattle.calls.specs.declared.Cycle.{Cycle}
 use Rattle.calls.specs.Begin.{begin_of}
 use Rattle.calls.specs.Walks.{walk}
 use Rattle.calls.specs.Points.{Point}
+use Rattle.format.specs.declared.Fault.TheVariants.{StartDropped}
 
 -- what a caller reads of a build
 pub record Read : Type 1 where
@@ -31,7 +31,7 @@ pub record Read : Type 1 where
 
 -- off the result: number 0 and number 11 are these verdicts (proved: build_numbered, crates/calls/proofs/Codes.antt)
 abbrev pub of_built : Built → Read
-of_built b = record { Done = b.verdict ≡ Fine; NoConverter = b.verdict ≡ Refused 11 0 0; kept = b.kept; rounds = b.rounds }
+of_built b = record { Done = b.verdict ≡ Fine; NoConverter = b.verdict ≡ Refused StartDropped None 0; kept = b.kept; rounds = b.rounds }
 
 -- off the packed number: its lowest 8 bits are the number, 16 bits from 2^32 on the kept count, and what is above 2^48 the rounds
 abbrev pub of_packed : ℕ → Read

@@ -1,31 +1,15 @@
--- The largest of the bytes looked at, byte by byte, and what it says of refusal 12. Assumes nothing.
-use Prim.Native.Nat.{ℕ, ◌+◌, ◌≤◌, ◌<◌}
+-- What the largest of the bytes looked at says of refusal 12. Assumes nothing.
+use Prim.Native.Nat.{ℕ, ◌≤◌, ◌<◌}
 use native.Mathlib.Omega.{arith}
-use mathlib.Core.Path.{◌≡◌, sym, ◌∙◌}
-use mathlib.Core.Logic.{◌⊎◌, ⊎_elim}
+use mathlib.Core.Path.{◌≡◌}
 use mathlib.Core.Bool.{true, false}
 use mathlib.Core.List.{List}
-use borrow.Author.Count.{below_more}
 use borrow.Author.Tests.{lt-ltb, le-ltb}
 use Rattle.lists.specs.Search.{some}
 use Rattle.lists.proofs.Search.{hit_some, none_some}
 use Rattle.format.specs.Format.{byte}
 use Rattle.calls.specs.Refusals.{is_other}
 use Rattle.entry.specs.Largest.{Largest}
-
-pub largest_none : (bytes : List ℕ) → Largest bytes 0 0
-largest_none bytes = record { above = λ p h. absurd (omega arith); reached = λ h. absurd (omega arith) }
-
-pub largest_more : (bytes : List ℕ) (n : ℕ) {most next : ℕ} → Largest bytes n most
-    → (most ≤ next) × (byte bytes n ≤ next) × ((next ≡ most) ⊎ (next ≡ byte bytes n)) → Largest bytes (n + 1) next
-largest_more bytes n {most} {next} l e = record {
-  above = below_more _ n (λ p h. omega (arith, l.above p h, e.0)) e.1;
-  reached = λ h.
-      ⊎_elim
-      (λ (q : next ≡ most). let r = l.reached (omega arith) in (r.0, omega (arith, r.1), r.2 ∙ sym q))
-      (λ (q : next ≡ byte bytes n). (n, omega arith, sym q))
-      e.2;
-}
 
 module _ {bytes : List ℕ} {n z : ℕ} (l : Largest bytes n z) where
   -- a byte that is neither 0 nor 1

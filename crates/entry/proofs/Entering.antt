@@ -1,74 +1,106 @@
--- Every call enters, and then the rest of it decides: one law for ask, build and step. Assumes nothing.
-use Prim.Native.Nat.{ℕ, zero, suc}
+-- Every call enters: both tables are read, then 9 and 17 are tested, and what comes of it is what the checks say. Assumes nothing.
+use Prim.Native.Nat.{ℕ, ◌≤◌, ◌<◌}
+use native.Mathlib.Omega.{arith}
 use mathlib.Core.Path.{◌≡◌, refl, sym, ap, ◌∙◌}
 use mathlib.Core.List.{List, [], ◌∷◌, ◌++◌, append_assoc}
+use borrow.Author.Tests.{lt-ltb, le-ltb}
+use Rattle.std.specs.Prelude.{Ok, Err}
 use Rattle.format.specs.declared.Reading.{Reading}
+use Rattle.format.specs.declared.Refusal.{Refusal}
+use Rattle.format.specs.declared.Fault.TheVariants.{BoundTooLarge, UnknownRule}
 use Rattle.format.specs.declared.Side.TheVariants.{Writer, Reader}
-use Rattle.format.specs.declared.Verdict.{Verdict}
-use Rattle.format.specs.declared.Verdict.TheVariants.{Fine, Refused}
-use Rattle.format.specs.Verdicts.{side_number, Check, verdict_of, and_then, given}
+use Rattle.format.specs.Verdicts.{Fine, unsided, Check, verdict_of, and_then, given, unless}
 use Rattle.format.specs.Reads.{checks, read_of}
-use Rattle.format.proofs.Verdicts.{verdict_append, first_refuses, then_decides}
+use Rattle.format.proofs.Verdicts.{verdict_append, first_refuses, then_decides, unless_fine, unless_refused, unless_front, unless_goes_on, known_fine, known_value, known_refused}
 use Rattle.format.proofs.Readings.{read_verdict}
 use Rattle.rules.specs.declared.Rule.{Rule}
-use Rattle.rules.specs.declared.Rule.TheVariants.{FlowThrough}
+use Rattle.rules.specs.declared.Rule.TheVariants.{Registered, FlowThrough}
 use Rattle.rules.specs.declared.Pair.{Pair}
+use Rattle.rules.specs.Numbers.{rule_number}
 use Rattle.calls.specs.Call.{Call, rule_of, pair_of}
 use Rattle.calls.specs.Refusals.{bound_check, rule_check, enter_checks}
 use Rattle.calls.specs.Past.{Entered}
 use Rattle.calls.proofs.Silent.{enter_known}
-use Rattle.entry.specs.declared.Entry.{Entry}
-use Rattle.entry.specs.Enter.{Enters}
 
-pub other_rule : (n : ℕ) → (n ≡ 0 → ⊥) → FlowThrough ≡ rule_of n
-other_rule zero h = absurd (h refl)
-other_rule (suc n) h = refl
+rule_few : (rule : Rule) {n : ℕ} → rule_number rule ≡ n → n ≤ 1
+rule_few Registered e = omega arith
+rule_few FlowThrough e = omega arith
+
+rule_is : (rule : Rule) {n : ℕ} → rule_number rule ≡ n → rule ≡ rule_of n
+rule_is Registered e = rw (← e)
+rule_is FlowThrough e = rw (← e)
 
 -- ---- what the code reads and tests is what the checks say
 
-module _ (k : Call) where
+module _ (k : Call) {w r : Reading} (is_w : w ≡ read_of k.writer Writer) (is_r : r ≡ read_of k.reader Reader) where
   -- 9, then 17
   abbrev numbers : List Check
   numbers = bound_check k.bound ∷ rule_check k.rule ∷ []
 
-  verdict_is :
-      and_then (read_of k.writer Writer).verdict (and_then (read_of k.reader Reader).verdict (verdict_of numbers))
-      ≡ verdict_of (enter_checks k)
+  verdict_is : and_then w.verdict (and_then r.verdict (verdict_of numbers)) ≡ verdict_of (enter_checks k)
   verdict_is =
-      let w = checks k.writer (side_number Writer) in
-      let r = checks k.reader (side_number Reader) in
-      let joined : enter_checks k ≡ w ++ (r ++ numbers) =
-      append_assoc w (r ++ (bound_check k.bound ∷ [])) (rule_check k.rule ∷ [])
-      ∙ ap (λ (cs : List Check). w ++ cs) (append_assoc r (bound_check k.bound ∷ []) (rule_check k.rule ∷ [])) in
-      rw (read_verdict k.writer Writer, read_verdict k.reader Reader, joined, verdict_append w (r ++ numbers), verdict_append r numbers)
+      let ws = checks k.writer Writer in
+      let rs = checks k.reader Reader in
+      let joined : enter_checks k ≡ ws ++ (rs ++ numbers) =
+      append_assoc ws (rs ++ (bound_check k.bound ∷ [])) (rule_check k.rule ∷ [])
+      ∙ ap (λ (cs : List Check). ws ++ cs) (append_assoc rs (bound_check k.bound ∷ []) (rule_check k.rule ∷ [])) in
+      rw (is_w, is_r, read_verdict k.writer Writer, read_verdict k.reader Reader, joined, verdict_append ws (rs ++ numbers), verdict_append rs numbers)
 
-  pub enter_is : {w r : Reading} {v : Verdict} {rule : Rule} → rule ≡ rule_of k.rule → w ≡ read_of k.writer Writer → r ≡ read_of k.reader Reader
-      → v ≡ and_then w.verdict (and_then r.verdict (verdict_of numbers))
-      → Enters k (record { pair = record { writer = w.table; reader = r.table; bound = k.bound; rule = rule }; verdict = v })
-  enter_is ec ew er ev = record {
-    pair_is = λ i. record { writer = (ew i).table; reader = (er i).table; bound = k.bound; rule = ec i };
-    told = ev ∙ rw (ew, er) verdict_is;
-  }
+  pub writer_refused : {x : Refusal} → w.verdict ≡ Err x → Err x ≡ unless (verdict_of (enter_checks k)) (pair_of k)
+  writer_refused e = unless_refused (pair_of k) (sym verdict_is ∙ rw e)
 
--- ---- a call that has entered
+  module _ (fine_w : w.verdict ≡ Fine) where
+    pub reader_refused : {x : Refusal} → r.verdict ≡ Err x → Err x ≡ unless (verdict_of (enter_checks k)) (pair_of k)
+    reader_refused e = unless_refused (pair_of k) (sym verdict_is ∙ rw (fine_w, e))
 
-module _ {k : Call} {o : Entry} (entered : Enters k o) where
-  pub entry_fine : o.verdict ≡ Fine → verdict_of (enter_checks k) ≡ Fine
-  entry_fine e = sym entered.told ∙ e
+    module _ (fine_r : r.verdict ≡ Fine) where
+      pub bound_refused : 15 < k.bound → Err (unsided BoundTooLarge) ≡ unless (verdict_of (enter_checks k)) (pair_of k)
+      bound_refused h = unless_refused (pair_of k) (sym verdict_is ∙ rw (fine_w, fine_r, lt-ltb 15 k.bound h))
 
-  pub entry_known : o.verdict ≡ Fine → Entered o.pair
-  entry_known e = rw entered.pair_is (enter_known k (entry_fine e))
+      module _ (few : k.bound ≤ 15) where
+        pub rule_refused : 1 < k.rule → Err (unsided UnknownRule) ≡ unless (verdict_of (enter_checks k)) (pair_of k)
+        rule_refused h = unless_refused (pair_of k) (sym verdict_is ∙ rw (fine_w, fine_r, le-ltb 15 k.bound few, lt-ltb 1 k.rule h))
 
-  module _ {ℓ} {A : Type ℓ} (refuse : Verdict → A) where
-    -- the entry checks, then the rest, over the pair as read
-    module _ (done : Pair → A) (later : Pair → List Check) where
-      abbrev whole : A
-      whole = given (verdict_of (enter_checks k ++ later (pair_of k))) refuse (done (pair_of k))
+        pub entered : (rule : Rule) → rule_number rule ≡ k.rule
+            → Ok (record { writer = w.table; reader = r.table; bound = k.bound; rule = rule }) ≡ unless (verdict_of (enter_checks k)) (pair_of k)
+        entered rule e =
+            let is : ◌≡◌ {A = Pair} (record { writer = w.table; reader = r.table; bound = k.bound; rule = rule }) (pair_of k) =
+            λ i. record { writer = (is_w i).table; reader = (is_r i).table; bound = k.bound; rule = rule_is rule e i } in
+            ap (λ (p : Pair). Ok p) is
+            ∙ unless_fine (pair_of k) (sym verdict_is ∙ rw (fine_w, fine_r, le-ltb 15 k.bound few, le-ltb 1 k.rule (rule_few rule e)))
 
-      pub entry_refuses : {n s r : ℕ} → o.verdict ≡ Refused n s r → refuse o.verdict ≡ whole
-      entry_refuses e = first_refuses refuse (done (pair_of k)) (enter_checks k) (later (pair_of k)) entered.told e
+-- what is known of a call that has entered
+module _ (k : Call) {p : Pair} where
+  pub entry_fine : unless (verdict_of (enter_checks k)) (pair_of k) ≡ Ok p → verdict_of (enter_checks k) ≡ Fine
+  entry_fine e = known_fine (verdict_of (enter_checks k)) (pair_of k) refl e
 
-      pub entry_goes_on : o.verdict ≡ Fine → given (verdict_of (later o.pair)) refuse (done o.pair) ≡ whole
-      entry_goes_on e =
-          ap (λ (X : Pair). given (verdict_of (later X)) refuse (done X)) entered.pair_is
-          ∙ then_decides refuse (done (pair_of k)) (enter_checks k) (later (pair_of k)) (entry_fine e)
+  pub entry_is : unless (verdict_of (enter_checks k)) (pair_of k) ≡ Ok p → pair_of k ≡ p
+  entry_is e = known_value (verdict_of (enter_checks k)) (pair_of k) refl e
+
+  pub entry_known : unless (verdict_of (enter_checks k)) (pair_of k) ≡ Ok p → Entered p
+  entry_known e = rw (← entry_is e) (enter_known k (entry_fine e))
+
+  -- the entry checks, then the rest, over the pair as read
+  module _ (ok : unless (verdict_of (enter_checks k)) (pair_of k) ≡ Ok p) {A : Type 0} (value : Pair → A) (later : Pair → List Check) where
+    pub entry_ok : unless (verdict_of (later p)) (value p) ≡ unless (verdict_of (enter_checks k ++ later (pair_of k))) (value (pair_of k))
+    entry_ok =
+        ap (λ (X : Pair). unless (verdict_of (later X)) (value X)) (sym (entry_is ok))
+        ∙ unless_goes_on (value (pair_of k)) (enter_checks k) (later (pair_of k)) (entry_fine ok)
+
+pub entry_err : (k : Call) {A : Type 0} (a : A) (later : List Check) {r : Refusal} → unless (verdict_of (enter_checks k)) (pair_of k) ≡ Err r
+    → Err r ≡ unless (verdict_of (enter_checks k ++ later)) a
+entry_err k a later e = unless_front a (enter_checks k) later (known_refused (verdict_of (enter_checks k)) (pair_of k) refl e)
+
+-- a call that gives its answer by its verdict: the entry checks refuse, or the rest decides over the pair as read
+module _ {ℓ} {A : Type ℓ} (k : Call) (refuse : Refusal → A) (done : Pair → A) (later : Pair → List Check) where
+  abbrev whole : A
+  whole = given (verdict_of (enter_checks k ++ later (pair_of k))) refuse (done (pair_of k))
+
+  pub entry_refuses : {r : Refusal} → unless (verdict_of (enter_checks k)) (pair_of k) ≡ Err r → refuse r ≡ whole
+  entry_refuses e =
+      first_refuses refuse (done (pair_of k)) (enter_checks k) (later (pair_of k)) refl (known_refused (verdict_of (enter_checks k)) (pair_of k) refl e)
+
+  pub entry_goes_on : {p : Pair} → unless (verdict_of (enter_checks k)) (pair_of k) ≡ Ok p → given (verdict_of (later p)) refuse (done p) ≡ whole
+  entry_goes_on ok =
+      ap (λ (X : Pair). given (verdict_of (later X)) refuse (done X)) (sym (entry_is k ok))
+      ∙ then_decides refuse (done (pair_of k)) (enter_checks k) (later (pair_of k)) (entry_fine k ok)

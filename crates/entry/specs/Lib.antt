@@ -1,2 +1,1 @@
-pub mod Enter
 pub mod Largest

@@ -12,15 +12,13 @@ use Rattle.lists.specs.Search.{some}
 use Rattle.lists.proofs.Bools.{eq_test}
 use Rattle.lists.proofs.Search.{some_none}
 use Rattle.lists.proofs.Tab.{length_tab, tab_at, get_d_same}
-use Rattle.format.specs.Verdicts.{side_number, verdict_of, given}
+use Rattle.format.specs.Verdicts.{side_number, Verdict, Fine, verdict_of, given}
 use Rattle.format.specs.Format.{rows_in, row_at, zero_row, rows_of, table_of}
 use Rattle.format.specs.Reads.{bad_row, fall_row, header_checks, row_checks, checks, refused_as, read_as, read_of}
 use Rattle.format.specs.Good.{row, GoodRow, Good}
 use Rattle.format.specs.declared.Side.{Side}
 use Rattle.format.specs.declared.Side.TheVariants.{Writer, Reader}
 use Rattle.format.specs.declared.Reading.{Reading}
-use Rattle.format.specs.declared.Verdict.{Verdict}
-use Rattle.format.specs.declared.Verdict.TheVariants.{Fine}
 use Rattle.format.proofs.Verdicts.{Silent, fine_silent, fine_front, fine_goes_on}
 use Rattle.format.proofs.RowTests.{fits_of, no_fall}
 use Rattle.format.proofs.Readings.{HeaderFine, header_of, read_verdict}
@@ -51,7 +49,7 @@ module _ (bs : List ℕ) where
 
 -- ---- a reading that is fine
 
-pub fine_checks : (bs : List ℕ) (side : Side) → (read_of bs side).verdict ≡ Fine → verdict_of (checks bs (side_number side)) ≡ Fine
+pub fine_checks : (bs : List ℕ) (side : Side) → (read_of bs side).verdict ≡ Fine → verdict_of (checks bs side) ≡ Fine
 fine_checks bs side e = sym (read_verdict bs side) ∙ e
 
 pub fine_table : (bs : List ℕ) (side : Side) → (read_of bs side).verdict ≡ Fine → (read_of bs side).table ≡ table_of bs
@@ -62,16 +60,15 @@ side_range : (side : Side) → (1 ≤ side_number side) × (side_number side ≤
 side_range Writer = (omega arith, omega arith)
 side_range Reader = (omega arith, omega arith)
 
-module _ (bs : List ℕ) (side : Side) (fine : verdict_of (checks bs (side_number side)) ≡ Fine) where
-  header : HeaderFine bs (side_number side)
-  header = header_of bs (side_number side) fine
+module _ (bs : List ℕ) (side : Side) (fine : verdict_of (checks bs side) ≡ Fine) where
+  header : HeaderFine bs side
+  header = header_of bs side fine
 
   rows_silent : (some (bad_row bs) 0 (rows_in bs) ≡ false) × (some (fall_row bs) 0 (rows_in bs) ≡ false)
   unfolding row_checks
   rows_silent =
-      let s = side_number side in
-      let a = header_checks bs s in
-      let b = row_checks bs s in
+      let a = header_checks bs side in
+      let b = row_checks bs side in
       let e : verdict_of b ≡ Fine = fine_goes_on a b (fine_front a b fine) ∙ fine in
       let h : Silent b = fine_silent b e in
       (h.0, h.1.0)

@@ -1,14 +1,14 @@
 -- Document 01, the table of refusals, 1 to 8, and what reading gives. Assumes nothing.
-use Rattle.std.specs.Prelude.{ℕ, ◌+◌, ◌-◌, ◌*◌, Bool, cond, not, ◌&&◌, ◌||◌, List, [], ◌∷◌, ◌++◌, length, ltb, leb, eqb}
+use Rattle.std.specs.Prelude.{ℕ, ◌+◌, ◌-◌, ◌*◌, Bool, cond, not, ◌&&◌, ◌||◌, List, [], ◌∷◌, ◌++◌, length, ltb, leb, eqb, Some, Err}
 use Rattle.lists.specs.Search.{seek, first, some}
-use Rattle.format.specs.Verdicts.{side_number, Check, when, verdict_of, given}
+use Rattle.format.specs.Verdicts.{side_number, Fine, Check, when, verdict_of, given}
 use Rattle.format.specs.Format.{known, row_size, most_items, version_in, length_in, role_in, states_in, start_in, finish_in, letters_in, rows_in}
 use Rattle.format.specs.Format.{row_at, no_rows, rows_of, table_of, zero_table}
 use Rattle.format.specs.declared.Row.{Row}
 use Rattle.format.specs.declared.Side.{Side}
 use Rattle.format.specs.declared.Reading.{Reading}
-use Rattle.format.specs.declared.Verdict.{Verdict}
-use Rattle.format.specs.declared.Verdict.TheVariants.{Fine}
+use Rattle.format.specs.declared.Fault.TheVariants.{Short, UnknownVersion, UntrueLength, WrongRole, OutOfRange, NoSuchEnd, BadField, NotRising}
+use Rattle.format.specs.declared.Refusal.{Refusal}
 
 abbrev pub not_in : ℕ → ℕ → ℕ → Bool
 not_in low high x = ltb x low || ltb high x
@@ -37,7 +37,7 @@ unfoldable pub fall_row : List ℕ → ℕ → Bool
 unfolding rises
 fall_row bs i = ltb 0 i && not (rises (row_at bs (i - 1)) (row_at bs i))
 
--- ---- the table of refusals, for a table of the side with number s
+-- ---- the table of refusals, for a table of a side
 
 -- length field not (bytes - 3), or not 6 + 5 × rows
 unfoldable pub length_wrong : List ℕ → Bool
@@ -52,38 +52,38 @@ range_wrong bs = not_in 1 16 (states_in bs) || (not_in 1 8 (letters_in bs) || no
 unfoldable pub end_wrong : List ℕ → Bool
 end_wrong bs = leb (states_in bs) (start_in bs) || leb (states_in bs) (finish_in bs)
 
-unfoldable pub header_checks : List ℕ → ℕ → List Check
+unfoldable pub header_checks : List ℕ → Side → List Check
 unfolding length_wrong range_wrong end_wrong
-header_checks bs s =
-    when 1 s 0 (ltb (length bs) 9)
-    ∷ when 2 s 0 (not (known (version_in bs)))
-    ∷ when 3 s 0 (length_wrong bs)
-    ∷ when 4 s 0 (not (eqb (role_in bs) s))
-    ∷ when 5 s 0 (range_wrong bs)
-    ∷ when 6 s 0 (end_wrong bs)
+header_checks bs side =
+    when Short (Some side) 0 (ltb (length bs) 9)
+    ∷ when UnknownVersion (Some side) 0 (not (known (version_in bs)))
+    ∷ when UntrueLength (Some side) 0 (length_wrong bs)
+    ∷ when WrongRole (Some side) 0 (not (eqb (role_in bs) (side_number side)))
+    ∷ when OutOfRange (Some side) 0 (range_wrong bs)
+    ∷ when NoSuchEnd (Some side) 0 (end_wrong bs)
     ∷ []
 
 -- a row field out of range: the first such row
-abbrev pub field_check : List ℕ → ℕ → Check
-field_check bs s = when 7 s (first (bad_row bs) (rows_in bs)) (some (bad_row bs) 0 (rows_in bs))
+abbrev pub field_check : List ℕ → Side → Check
+field_check bs side = when BadField (Some side) (first (bad_row bs) (rows_in bs)) (some (bad_row bs) 0 (rows_in bs))
 
 -- rows do not rise: the later row of the first bad pair
-abbrev pub order_check : List ℕ → ℕ → Check
-order_check bs s = when 8 s (first (fall_row bs) (rows_in bs)) (some (fall_row bs) 0 (rows_in bs))
+abbrev pub order_check : List ℕ → Side → Check
+order_check bs side = when NotRising (Some side) (first (fall_row bs) (rows_in bs)) (some (fall_row bs) 0 (rows_in bs))
 
 -- 7 is tried over a whole table before 8
-unfoldable pub row_checks : List ℕ → ℕ → List Check
+unfoldable pub row_checks : List ℕ → Side → List Check
 unfolding seek bad_row fall_row
-row_checks bs s = field_check bs s ∷ order_check bs s ∷ []
+row_checks bs side = field_check bs side ∷ order_check bs side ∷ []
 
-abbrev pub checks : List ℕ → ℕ → List Check
-checks bs s = header_checks bs s ++ row_checks bs s
+abbrev pub checks : List ℕ → Side → List Check
+checks bs side = header_checks bs side ++ row_checks bs side
 
 -- ---- reading
 
 -- all zero beside number, side and row
-abbrev pub refused_as : Verdict → Reading
-refused_as v = record { table = zero_table; verdict = v }
+abbrev pub refused_as : Refusal → Reading
+refused_as r = record { table = zero_table; verdict = Err r }
 
 -- the table of the bytes
 abbrev pub read_as : List ℕ → Reading
@@ -91,4 +91,4 @@ read_as bs = record { table = table_of bs; verdict = Fine }
 
 unfoldable pub read_of : List ℕ → Side → Reading
 unfolding header_checks row_checks rows_of no_rows
-read_of bs side = given (verdict_of (checks bs (side_number side))) refused_as (read_as bs)
+read_of bs side = given (verdict_of (checks bs side)) refused_as (read_as bs)

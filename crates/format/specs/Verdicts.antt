@@ -1,50 +1,99 @@
--- The numbers that document 01 gives to a side and to a verdict, and how a list of checks becomes a verdict.
+-- The numbers that document 01 gives to a side and to a refusal, and how a list of checks becomes a verdict.
 -- Assumes nothing.
-use Rattle.std.specs.Prelude.{ℕ, Bool, cond, List, [], ◌∷◌}
+use Rattle.std.specs.Prelude.{ℕ, Bool, cond, List, [], ◌∷◌, Option, None, Some, Result, Ok, Err}
 use Rattle.format.specs.declared.Side.{Side}
 use Rattle.format.specs.declared.Side.TheVariants.{Writer, Reader}
-use Rattle.format.specs.declared.Verdict.{Verdict}
-use Rattle.format.specs.declared.Verdict.TheVariants.{Fine, Refused}
+use Rattle.format.specs.declared.Fault.{Fault}
+use Rattle.format.specs.declared.Fault.TheVariants.{Short, UnknownVersion, UntrueLength, WrongRole, OutOfRange, NoSuchEnd, BadField, NotRising, BoundTooLarge, NoRoom}
+use Rattle.format.specs.declared.Fault.TheVariants.{StartDropped, KeptByte, NoConfiguration, NoLetter, NotAllowed, NoRow, UnknownRule, UntrueList, BadMovePermitted, NoWayToFinish}
+use Rattle.format.specs.declared.Refusal.{Refusal}
 
 -- side 1 writes, 2 reads
 abbrev pub side_number : Side → ℕ
 side_number Writer = 1
 side_number Reader = 2
 
--- number, side and row of a verdict: 0, 0, 0 where it is done
+-- the table of refusals: 1 to 16 of document 01, 17 of request a, 18 to 20 of request c
+abbrev pub fault_number : Fault → ℕ
+fault_number Short = 1
+fault_number UnknownVersion = 2
+fault_number UntrueLength = 3
+fault_number WrongRole = 4
+fault_number OutOfRange = 5
+fault_number NoSuchEnd = 6
+fault_number BadField = 7
+fault_number NotRising = 8
+fault_number BoundTooLarge = 9
+fault_number NoRoom = 10
+fault_number StartDropped = 11
+fault_number KeptByte = 12
+fault_number NoConfiguration = 13
+fault_number NoLetter = 14
+fault_number NotAllowed = 15
+fault_number NoRow = 16
+fault_number UnknownRule = 17
+fault_number UntrueList = 18
+fault_number BadMovePermitted = 19
+fault_number NoWayToFinish = 20
+
+-- fine, or refused with number, side and row
+abbrev pub Verdict : Type 0
+Verdict = Result (Unit {0}) Refusal
+
+abbrev pub Fine : Verdict
+Fine = Ok tt
+
+abbrev pub refusal : Fault → Option Side → ℕ → Refusal
+refusal fault side row = record { fault = fault; side = side; row = row }
+
+abbrev pub Refused : Fault → Option Side → ℕ → Verdict
+Refused fault side row = Err (refusal fault side row)
+
+-- of no side and no row
+abbrev pub unsided : Fault → Refusal
+unsided fault = refusal fault None 0
+
+-- number, side and row of a verdict: 0, 0, 0 where it is done, and side 0 where the refusal names none
 abbrev pub number_of : Verdict → ℕ
-number_of Fine = 0
-number_of (Refused number side row) = number
+number_of (Ok _) = 0
+number_of (Err r) = fault_number r.fault
+
+abbrev pub named_side : Option Side → ℕ
+named_side None = 0
+named_side (Some side) = side_number side
 
 abbrev pub side_of : Verdict → ℕ
-side_of Fine = 0
-side_of (Refused number side row) = side
+side_of (Ok _) = 0
+side_of (Err r) = named_side r.side
 
 abbrev pub row_of : Verdict → ℕ
-row_of Fine = 0
-row_of (Refused number side row) = row
+row_of (Ok _) = 0
+row_of (Err r) = r.row
 
--- a line of the table of refusals: its number, its side and row, and when it applies
+-- a line of the table of refusals: its refusal, and when it applies
 pub record Check : Type 0 where
-  pub number : ℕ
-  pub side : ℕ
-  pub row : ℕ
+  pub refuses : Refusal
   pub applies : Bool
 
-abbrev pub when : ℕ → ℕ → ℕ → Bool → Check
-when number side row applies = record { number = number; side = side; row = row; applies = applies }
+abbrev pub when : Fault → Option Side → ℕ → Bool → Check
+when fault side row applies = record { refuses = refusal fault side row; applies = applies }
 
 -- the lowest number that applies is given: the lines stand in their order, and the first that applies refuses
 abbrev pub verdict_of : List Check → Verdict
 verdict_of [] = Fine
-verdict_of (c ∷ cs) = cond c.applies (Refused c.number c.side c.row) (verdict_of cs)
+verdict_of (c ∷ cs) = cond c.applies (Err c.refuses) (verdict_of cs)
 
 -- the second verdict where the first is fine
 abbrev pub and_then : Verdict → Verdict → Verdict
-and_then Fine v = v
-and_then (Refused number side row) v = Refused number side row
+and_then (Ok _) v = v
+and_then (Err r) v = Err r
 
 -- what a call gives: what it does where its checks are silent, else what its refusal returns
-abbrev pub given {ℓ} : {A : Type ℓ} → Verdict → (Verdict → A) → A → A
-given Fine refuse done = done
-given (Refused number side row) refuse done = refuse (Refused number side row)
+abbrev pub given {ℓ} : {A : Type ℓ} → Verdict → (Refusal → A) → A → A
+given (Ok _) refuse done = done
+given (Err r) refuse done = refuse r
+
+-- what a call gives that either has this to give or hands the refusal on
+abbrev pub unless : {A : Type 0} → Verdict → A → Result A Refusal
+unless (Ok _) done = Ok done
+unless (Err r) done = Err r

@@ -10,7 +10,6 @@ ghost use Rattle.put.specs.Piece.{Put};
 
 use put::{digit, end_line, put, put_field};
 use texts::Cut;
-use widths::wide;
 
 // The move of bit m = 8x + y.
 fn put_move(out: &mut [u8], at: usize, m: u64) -> usize
@@ -40,10 +39,8 @@ fn put_moves(out: &mut [u8], at: usize, set: u64) -> usize
     ensures upper_bound { result ≤ at + 256 }
 {
     let mut next = at;
-    let mut m = 0;
-    while m < 64 {
+    for m in 0..64 {
         next = put_bit(out, next, set, m);
-        m += 1;
     }
     next
 }
@@ -98,24 +95,17 @@ pub fn refusal_line(out: &mut [u8; 512], number: u64, side: u64, row: u64) -> us
 fn table_bytes(bytes: &[u8]) -> usize
     ensures { result ≡ table_bytes bytes.now }
 {
-    if bytes.len() < 3 {
+    let &[_, high, low, ..] = bytes else {
         return bytes.len();
-    }
-    let end = 3 + 256 * wide(bytes[1]) + wide(bytes[2]);
-    if bytes.len() < end {
-        return bytes.len();
-    }
-    end
+    };
+    let end = 3 + usize::from(u16::from_be_bytes([high, low]));
+    end.min(bytes.len())
 }
 
 fn byte_or(bytes: &[u8], at: usize, missing: u64) -> u64
     ensures { result ≡ get_or bytes.now at missing }
 {
-    if bytes.len() <= at {
-        return missing;
-    }
-    let byte = wide(bytes[at]);
-    byte as u64
+    bytes.get(at).map_or(missing, |&byte| u64::from(byte))
 }
 
 // Cuts the program's input into writer table, reader table, bound and rule.
@@ -128,9 +118,9 @@ pub fn cut_input(input: &[u8]) -> Cut
     let bound = byte_or(rest, 0, 0);
     let rule = byte_or(rest, 1, 1);
     Cut {
-        writer: writer,
-        reader: reader,
-        bound: bound,
-        rule: rule,
+        writer,
+        reader,
+        bound,
+        rule,
     }
 }

@@ -5,102 +5,78 @@
 
 ghost use Rattle.std.specs.Prelude.{◌≡◌, ◌≤◌, length, take, OnOk, IfOk, IfSome};
 ghost use Rattle.std.specs.Io.KnownBytes.{Appends};
-ghost use Rattle.calls.specs.Call.{call_of};
 ghost use Rattle.listings.specs.Pages.{place_text};
 ghost use Rattle.listing.specs.Printed.{call_in, places_text, Prints, PrintsHead, PrintsEach, PrintsInput, PrintsWorked};
 
+use calls::Call;
 use std::io;
 use std::io::{Read, Write};
 use worked::{A_BOUNDS, A_READER, A_WRITER, C_BOUNDS, C_READER, C_WRITER, REGISTERED};
 
 // Builds into the lent bytes, and prints the first line or the refusal.
-fn list_head<W: Write>(
-    out: &mut W,
-    writer: &[u8],
-    reader: &[u8],
-    bound: u64,
-    rule: u64,
-    kept: &mut [u8],
-) -> io::Result<()>
-    ensures { OnOk result (PrintsHead (call_of writer.now reader.now bound rule) kept.old kept.new
+fn list_head<W: Write>(out: &mut W, call: &Call, kept: &mut [u8]) -> io::Result<()>
+    ensures { OnOk result (PrintsHead call.now kept.old kept.new
         (W.contents out.old) (W.contents out.new)) }
 {
     let mut line = [0u8; 512];
-    let n = pages::head(&mut line, writer, reader, bound, rule, kept);
+    let n = pages::head(&mut line, call, kept);
     out.write_all(&line[..n])
 }
 
-fn list_place<W: Write>(
-    out: &mut W,
-    writer: &[u8],
-    reader: &[u8],
-    bound: u64,
-    rule: u64,
-    kept: &[u8],
-    p: usize,
-) -> io::Result<()>
+fn list_place<W: Write>(out: &mut W, call: &Call, kept: &[u8], p: usize) -> io::Result<()>
     ensures { OnOk result (Appends (W.contents out.old) (W.contents out.new)
-        (place_text (call_of writer.now reader.now bound rule) kept.now p)) }
+        (place_text call.now kept.now p)) }
 {
     let mut line = [0u8; 512];
-    let n = pages::place_line(&mut line, writer, reader, bound, rule, kept, p);
+    let n = pages::place_line(&mut line, call, kept, p);
     out.write_all(&line[..n])
 }
 
 // No place that is not kept has a line, so all bytes of a refused pair, and those past N, print nothing.
-fn list_places<W: Write>(
-    out: &mut W,
-    writer: &[u8],
-    reader: &[u8],
-    bound: u64,
-    rule: u64,
-    kept: &[u8],
-) -> io::Result<()>
+fn list_places<W: Write>(out: &mut W, call: &Call, kept: &[u8]) -> io::Result<()>
     ensures { OnOk result (Appends (W.contents out.old) (W.contents out.new)
-        (places_text (call_of writer.now reader.now bound rule) kept.now (length kept.now))) }
+        (places_text call.now kept.now (length kept.now))) }
 {
     for p in 0..kept.len() {
-        list_place(out, writer, reader, bound, rule, kept, p)?;
+        list_place(out, call, kept, p)?;
     }
     Ok(())
 }
 
-fn list<W: Write>(
-    out: &mut W,
-    writer: &[u8],
-    reader: &[u8],
-    bound: u64,
-    rule: u64,
-) -> io::Result<()>
-    ensures { OnOk result (Prints (call_of writer.now reader.now bound rule)
+fn list<W: Write>(out: &mut W, call: &Call) -> io::Result<()>
+    ensures { OnOk result (Prints call.now
         (W.contents out.old) (W.contents out.new)) }
 {
     let mut kept = [0u8; 4096];
-    list_head(out, writer, reader, bound, rule, &mut kept)?;
-    list_places(out, writer, reader, bound, rule, &kept)
+    list_head(out, call, &mut kept)?;
+    list_places(out, call, &kept)
 }
 
 fn list_input<W: Write>(out: &mut W, input: &[u8]) -> io::Result<()>
     ensures { OnOk result (Prints (call_in input.now) (W.contents out.old) (W.contents out.new)) }
 {
     let cut = lines::cut_input(input);
-    let first = cut.writer;
-    let last = cut.reader;
-    list(
-        out,
-        &input[..first],
-        &input[first..last],
-        cut.bound,
-        cut.rule,
-    )
+    let call = Call {
+        writer: &input[..cut.writer],
+        reader: &input[cut.writer..cut.reader],
+        bound: cut.bound,
+        rule: cut.rule,
+    };
+    list(out, &call)
 }
 
 fn list_at<W: Write>(out: &mut W, writer: &[u8], reader: &[u8], bounds: &[u64]) -> io::Result<()>
     ensures { OnOk result (PrintsEach writer.now reader.now REGISTERED bounds.now
         (W.contents out.old) (W.contents out.new)) }
 {
-    for bound in bounds {
-        list(out, writer, reader, *bound, REGISTERED)?;
+    for &bound in bounds {
+        let call = Call {
+            writer,
+            reader,
+            bound,
+            rule: REGISTERED,
+        };
+        list(out, &call)?;
     }
     Ok(())
 }

@@ -3,12 +3,14 @@
 use Prim.Native.Nat.{ℕ}
 use mathlib.Core.Path.{◌≡◌, refl}
 use mathlib.Core.List.{List, [], ◌∷◌, ◌++◌}
-use Rattle.format.specs.declared.Verdict.TheVariants.{Fine, Refused}
+use Rattle.format.specs.Verdicts.{Fine, Refused}
 use Rattle.format.specs.Reads.{read_of}
 use Rattle.calls.specs.declared.Built.{Built}
 use Rattle.calls.specs.Call.{Call, call_of}
 use Rattle.texts.specs.Text.{ascii, first_line, conf_line, refusal_line}
 use Rattle.listings.specs.Pages.{head_text, place_text}
+use Rattle.std.specs.Prelude.{None}
+use Rattle.format.specs.declared.Fault.TheVariants.{StartDropped}
 
 abbrev A : ℕ → ℕ → Call
 A bound rule =
@@ -36,6 +38,6 @@ unfolding read_of first_line conf_line place_text
 pair_A = refl
 
 -- "A refusal prints `refused 11 side 0 row 0` with its numbers": case 1
-pub pair_A_refused : head_text (A 0 0) (record { verdict = Refused 11 0 0; kept = 0; rounds = 2 }) ≡ ascii "refused 11 side 0 row 0\n"
+pub pair_A_refused : head_text (A 0 0) (record { verdict = Refused StartDropped None 0; kept = 0; rounds = 2 }) ≡ ascii "refused 11 side 0 row 0\n"
 unfolding refusal_line
 pair_A_refused = refl

@@ -5,9 +5,7 @@ use mathlib.Core.Path.{◌≡◌, refl, sym, ap, ◌∙◌, subst}
 use mathlib.Core.List.{List, []}
 use lib.ListN.{length, get_or-eq_default}
 use borrow.Author.Tests.{eq-eqb, ne_eqb}
-use Rattle.format.specs.declared.Verdict.{Verdict}
-use Rattle.format.specs.declared.Verdict.TheVariants.{Fine, Refused}
-use Rattle.format.specs.Verdicts.{verdict_of}
+use Rattle.format.specs.Verdicts.{fault_number, named_side, Verdict, Fine, verdict_of}
 use Rattle.format.specs.Format.{byte}
 use Rattle.format.proofs.Verdicts.{refused_not_fine, refused_stays}
 use Rattle.rules.specs.declared.Conf.{Conf}
@@ -23,6 +21,8 @@ use Rattle.calls.proofs.Largest.{build_cases, build_enters}
 use Rattle.texts.specs.Text.{first_line, conf_line, refusal_line}
 use Rattle.texts.specs.Written.{Written}
 use Rattle.listings.specs.Pages.{head_as, head_text, asked_text, spot_text, text_at, place_text}
+use Rattle.std.specs.Prelude.{Err}
+use Rattle.format.specs.declared.Refusal.{Refusal}
 
 -- ---- no text leaves the buffer as it was
 
@@ -48,20 +48,20 @@ pub built_entered : (k : Call) (before after : List ℕ) (b : Built) → BuildSa
 built_entered k before after b says e =
     build_cases k before after b (verdict_of (enter_checks k) ≡ Fine) says
     (λ fine made. build_enters k before fine)
-    (λ n s r told u. absurd (refused_not_fine (sym (ap (λ (z : Built). z.verdict) u.0) ∙ e)))
+    (λ r told u. absurd (refused_not_fine (sym (ap (λ (z : Built). z.verdict) u.0) ∙ e)))
 
 module _ (k : Call) (b : Built) where
   pub head_fine : {n : ℕ} → n ≡ size (pair_of k) → b.verdict ≡ Fine → first_line b.kept n b.rounds k.bound k.rule ≡ head_text k b
   head_fine q e = ap (λ (z : ℕ). first_line b.kept z b.rounds k.bound k.rule) q ∙ sym (ap (λ (v : Verdict). head_as v k b) e)
 
-  pub head_refused : {n s r : ℕ} → b.verdict ≡ Refused n s r → refusal_line n s r ≡ head_text k b
+  pub head_refused : {r : Refusal} → b.verdict ≡ Err r → refusal_line (fault_number r.fault) (named_side r.side) r.row ≡ head_text k b
   head_refused e = sym (ap (λ (v : Verdict). head_as v k b) e)
 
 module _ (k : Call) (bytes : List ℕ) where
   -- ---- the line of a configuration
 
   module _ (c : Conf) where
-    pub spot_none : {n s r : ℕ} → verdict_of (ask_checks k bytes c) ≡ Refused n s r → spot_text k bytes c ≡ []
+    pub spot_none : {r : Refusal} → verdict_of (ask_checks k bytes c) ≡ Err r → spot_text k bytes c ≡ []
     unfolding spot_text ask_of
     spot_none e = rw e
 
@@ -70,7 +70,7 @@ module _ (k : Call) (bytes : List ℕ) where
       unfolding spot_text
       spot_is = ap (λ (z : Asked). asked_text z.verdict c z) told
 
-      spot_refused : {n s r : ℕ} → a.verdict ≡ Refused n s r → spot_text k bytes c ≡ []
+      spot_refused : {r : Refusal} → a.verdict ≡ Err r → spot_text k bytes c ≡ []
       spot_refused e = sym spot_is ∙ ap (λ (v : Verdict). asked_text v c a) e
 
       spot_fine : a.verdict ≡ Fine → line_of c a.set ≡ spot_text k bytes c
@@ -83,7 +83,7 @@ module _ (k : Call) (bytes : List ℕ) where
     unfolding conf_at
     text_is = rw states
 
-    pub text_refused : {m s r : ℕ} → a.verdict ≡ Refused m s r → text_at k bytes p ≡ []
+    pub text_refused : {r : Refusal} → a.verdict ≡ Err r → text_at k bytes p ≡ []
     text_refused e = sym text_is ∙ spot_refused (divided n (k.bound + 1) p) told e
 
     pub text_fine : a.verdict ≡ Fine → line_of (divided n (k.bound + 1) p) a.set ≡ text_at k bytes p
@@ -103,7 +103,7 @@ module _ (k : Call) (bytes : List ℕ) where
     unfolding place_text
     place_kept e = sym (rw (eq-eqb (byte bytes p) 1 e))
 
-    pub place_refused : byte bytes p ≡ 1 → {n s r : ℕ} → verdict_of (enter_checks k) ≡ Refused n s r → place_text k bytes p ≡ []
+    pub place_refused : byte bytes p ≡ 1 → {r : Refusal} → verdict_of (enter_checks k) ≡ Err r → place_text k bytes p ≡ []
     place_refused one e =
         let c = conf_at (pair_of k) p in
         sym (place_kept one) ∙ spot_none c (sym (refused_stays (enter_checks k) (asks_checks (pair_of k) bytes c) e) ∙ e)

@@ -5,9 +5,7 @@ use native.Mathlib.Omega.{arith}
 use mathlib.Core.Path.{◌≡◌, refl, ap, ◌∙◌}
 use mathlib.Core.Bool.{Bool, true, false, cond}
 use mathlib.Core.List.{List, []}
-use Rattle.format.specs.declared.Verdict.{Verdict}
-use Rattle.format.specs.declared.Verdict.TheVariants.{Fine, Refused}
-use Rattle.format.specs.Verdicts.{verdict_of}
+use Rattle.format.specs.Verdicts.{Verdict, Fine, verdict_of}
 use Rattle.format.proofs.Verdicts.{fine_front, fine_goes_on}
 use Rattle.rules.specs.declared.Conf.{Conf}
 use Rattle.rules.specs.declared.Pair.{Pair}
@@ -20,6 +18,7 @@ use Rattle.calls.specs.Ask.{asks_checks, ask_checks}
 use Rattle.calls.proofs.Silent.{enter_known, ask_known}
 use Rattle.listings.specs.Pages.{spot_text, place_text}
 use Rattle.listings.proofs.Texts.{spot_none}
+use Rattle.std.specs.Prelude.{Ok, Err}
 
 none_either : (b : Bool) {l : List ℕ} → l ≡ [] → cond b l [] ≡ []
 none_either true e = e
@@ -45,8 +44,8 @@ module _ (k : Call) (bytes : List ℕ) where
   spot_past c h = go (verdict_of (ask_checks k bytes c)) refl
     where
       go : (v : Verdict) → verdict_of (ask_checks k bytes c) ≡ v → spot_text k bytes c ≡ []
-      go Fine e = absurd (omega (arith, h, place_in X (asked_within c e)))
-      go (Refused n s r) e = spot_none k bytes c e
+      go (Ok tt) e = absurd (omega (arith, h, place_in X (asked_within c e)))
+      go (Err r) e = spot_none k bytes c e
 
   pub text_past : {p : ℕ} → size X ≤ p → place_text k bytes p ≡ []
   unfolding place_text

@@ -1,8 +1,7 @@
 -- Document 01, "The listing", with the rule in its first line (request a): which text the listing of a pair has, from what build and ask answer.
 -- Assumes nothing.
-use Rattle.std.specs.Prelude.{ℕ, cond, List, []}
-use Rattle.format.specs.declared.Verdict.{Verdict}
-use Rattle.format.specs.declared.Verdict.TheVariants.{Fine, Refused}
+use Rattle.std.specs.Prelude.{ℕ, cond, List, [], Ok, Err}
+use Rattle.format.specs.Verdicts.{fault_number, named_side, Verdict}
 use Rattle.rules.specs.declared.Conf.{Conf}
 use Rattle.rules.specs.Configurations.{size}
 use Rattle.rules.specs.Tools.Computed.{one_at, conf_at}
@@ -16,8 +15,8 @@ use Rattle.texts.specs.Written.{Written}
 
 -- "First line: kept count, N, rounds, B." It "ends in ` rule=` and the number." "A refusal prints `refused 11 side 0 row 0` with its numbers."
 abbrev pub head_as : Verdict → Call → Built → List ℕ
-head_as Fine k b = first_line b.kept (size (pair_of k)) b.rounds k.bound k.rule
-head_as (Refused number side row) k b = refusal_line number side row
+head_as (Ok tt) k b = first_line b.kept (size (pair_of k)) b.rounds k.bound k.rule
+head_as (Err r) k b = refusal_line (fault_number r.fault) (named_side r.side) r.row
 
 abbrev pub head_text : Call → Built → List ℕ
 head_text k b = head_as b.verdict k b
@@ -30,8 +29,8 @@ pub record HeadSays (k : Call) (before after out : List ℕ) (r : ℕ) (written 
 
 -- "writer state, reader state, level, allowed moves": the line of a configuration by what ask answers there, and no text if ask refuses
 abbrev pub asked_text : Verdict → Conf → Asked → List ℕ
-asked_text Fine c a = conf_line c.writer c.reader c.level a.set
-asked_text (Refused number side row) c a = []
+asked_text (Ok tt) c a = conf_line c.writer c.reader c.level a.set
+asked_text (Err r) c a = []
 
 unfoldable pub spot_text : Call → List ℕ → Conf → List ℕ
 unfolding ask_of

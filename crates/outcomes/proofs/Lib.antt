@@ -1,4 +1,3 @@
-pub mod Signed
 pub mod Bases
 pub mod MoveTests
 pub mod Sides

@@ -11,13 +11,14 @@ use lib.Dec.{eqb, ltb}
 use lib.ListN.{length}
 use lib.Pow.{pow-add}
 use borrow.Author.Tests.{lt-ltb, le-ltb, eq-eqb, ne_eqb, eqb-true, not-false}
+use Rattle.std.proofs.Common.{lit<, w64}
+use Rattle.std.specs.Int.{from_be_bytes}
 use Rattle.lists.specs.Masks.{has_bit}
 use Rattle.lists.proofs.Bools.{or_none}
 use Rattle.lists.proofs.Masks.{bit_shr, bit_low}
 use Rattle.lists.proofs.Rest.{le_or_lt}
 use Rattle.format.specs.Format.{byte, version_in, length_in}
-use Rattle.format.specs.Verdicts.{verdict_of}
-use Rattle.format.specs.declared.Verdict.TheVariants.{Fine}
+use Rattle.format.specs.Verdicts.{verdict_of, Fine}
 use Rattle.format.proofs.Verdicts.{fine_silent}
 use Rattle.calls.specs.Lists.{big_endian, set_at, list_wrong, list_check}
 
@@ -85,7 +86,7 @@ module _ (x b : ℕ) (small : b < 256) where
 
 -- ---- a number in bytes
 
-pub bytes_more : (n x b : ℕ) → x < 2 ^ (8 * n) → b < 256 → 256 * x + b < 2 ^ (8 * (n + 1))
+bytes_more : (n x b : ℕ) → x < 2 ^ (8 * n) → b < 256 → 256 * x + b < 2 ^ (8 * (n + 1))
 bytes_more n x b h small =
     let e : 8 * (n + 1) ≡ 8 * n + 8 = omega arith in
     let d : 2 ^ (8 * (n + 1)) ≡ 2 ^ (8 * n) * 2 ^ 8 = ap (λ (k : ℕ). 2 ^ k) e ∙ pow-add 2 (8 * n) 8 in
@@ -126,10 +127,8 @@ module _ (bs : List ℕ) (bytes : (i : ℕ) → byte bs i < 256) where
   unfolding set_at
   set_bit p m h = sym (big_bit (3 + 8 * p) 8 m (3 + 8 * p + 7 - m / 8) (omega arith) (omega arith))
 
--- byte after byte
-pub big_more : (bs : List ℕ) (at n x b : ℕ) → x ≡ big_endian bs at n → b ≡ byte bs (at + n) → 256 * x + b ≡ big_endian bs at (n + 1)
-big_more bs at n x b e d = rw (add-one n, e, d)
-
-pub set_all : (bs : List ℕ) (p x n : ℕ) → n ≡ 8 → x ≡ big_endian bs (3 + 8 * p) n → x ≡ set_at bs p
+-- the eight bytes of a place, as a number
+pub set_from : (list bytes : List ℕ) (p : ℕ) → ((i : ℕ) → i < 8 → byte bytes i ≡ byte list (3 + 8 * p + i)) → from_be_bytes w64 bytes ≡ set_at list p
 unfolding set_at
-set_all bs p x n e d = d ∙ ap (big_endian bs (3 + 8 * p)) e
+set_from list bytes p at =
+    omega (arith, at 0 (lit< tt), at 1 (lit< tt), at 2 (lit< tt), at 3 (lit< tt), at 4 (lit< tt), at 5 (lit< tt), at 6 (lit< tt), at 7 (lit< tt))

@@ -7,9 +7,7 @@ ghost use Rattle.lists.specs.Masks.{has_bit};
 ghost use Rattle.format.specs.Verdicts.{verdict_of};
 ghost use Rattle.calls.specs.Lists.{set_at, list_wrong, list_check};
 
-use format::Verdict;
-use tables::refuse;
-use widths::wide;
+use format::{Fault, Refusal, Verdict};
 
 const VERSION: u8 = 1;
 
@@ -30,7 +28,7 @@ fn is_wrong(list: &[u8], n: usize) -> bool
     if list[0] != VERSION {
         return true;
     }
-    let count = 256 * wide(list[1]) + wide(list[2]);
+    let count = 256 * usize::from(list[1]) + usize::from(list[2]);
     if count + HEADER != list.len() {
         return true;
     }
@@ -42,24 +40,20 @@ pub fn check_list(list: &[u8], n: usize) -> Verdict
     ensures { result ≡ verdict_of (list_check n list.now ∷ []) }
 {
     if is_wrong(list, n) {
-        return refuse(18, 0);
+        return Err(Refusal::from(Fault::UntrueList));
     }
-    Verdict::Fine
+    Ok(())
 }
 
-// The set of moves that the list permits at place p: bit 8x + y for the move x.y. The loop compiles to one read of eight bytes.
+// The set of moves that the list permits at place p: bit 8x + y for the move x.y.
 pub fn permitted(list: &[u8], p: usize) -> u64
     requires { (3 + 8 * (p + 1) ≤ length list.now) × (p ≤ 4096) }
     ensures { result ≡ set_at list.now p }
 {
     let at = HEADER + SET_SIZE * p;
-    let mut set: u64 = 0;
-    let mut i: usize = 0;
-    while i < SET_SIZE {
-        set = 256 * set + wide(list[at + i]) as u64;
-        i += 1;
-    }
-    set
+    let mut set = [0u8; SET_SIZE];
+    set.copy_from_slice(&list[at..at + SET_SIZE]);
+    u64::from_be_bytes(set)
 }
 
 // Is the move with bit m permitted at place p? The bits 0 to 7 stand in the last byte of the set.
@@ -67,6 +61,6 @@ pub fn permits(list: &[u8], p: usize, m: u8) -> bool
     requires { (3 + 8 * (p + 1) ≤ length list.now) × (p ≤ 4096) × (m < 64) }
     ensures { result ≡ has_bit (set_at list.now p) m }
 {
-    let at = HEADER + SET_SIZE * p + 7 - wide(m / 8);
+    let at = HEADER + SET_SIZE * p + 7 - usize::from(m / 8);
     (list[at] >> (m % 8)) % 2 == 1
 }

@@ -1,12 +1,13 @@
 -- Pieces put one behind the other, and the whole line that they make. Assumes nothing.
-use Prim.Native.Nat.{ℕ, suc, ◌+◌, ◌≤◌, ◌<◌}
-use native.Mathlib.Nat.{add-zero}
-use native.Mathlib.Numerals.{add-one}
+use Prim.Native.Nat.{ℕ, suc, ◌+◌, ◌-◌, ◌≤◌}
+use native.Mathlib.Nat.{add-zero, le_refl}
 use native.Mathlib.Omega.{arith}
 use mathlib.Core.Path.{◌≡◌, refl, sym, ap, subst, ◌∙◌}
 use mathlib.Core.List.{List, [], ◌∷◌, ◌++◌}
-use lib.ListN.{length, get_or, set, take, length-append, length-take}
-use lib.Seq.{sets, sets-eq, length-sets, take-suc, take_all}
+use lib.ListN.{length, set, length-append, length-take}
+use lib.Seq.{sets, sets-eq, length-sets, take_all}
+use borrow.Rule.Slice.PartMut.{put_mid}
+use Rattle.std.proofs.lemmas.Slice.{put_mid-paste}
 use Rattle.texts.specs.Written.{Written}
 use Rattle.put.specs.Piece.{Put}
 
@@ -31,20 +32,17 @@ then {a} {b} {at} {s} {r} {l} {m} {n} p q =
 pub reads_as : {a b : List ℕ} {at r : ℕ} {l m : List ℕ} → a ≡ b → Put b at l r m → Put a at l r m
 reads_as {a} {b} {at} {r} {l} {m} e p = subst (λ (t : List ℕ). Put t at l r m) (sym e) p
 
--- ---- the loop that copies a piece
+-- ---- a piece that is copied
 
-pub put_next :
-    (piece : List ℕ) (at i : ℕ) {l m : List ℕ} → i < length piece → Put (take i piece) at l (at + i) m
-    → Put (take (i + 1) piece) at l (at + (i + 1)) (set m (at + i) (get_or piece i 0))
-put_next piece at i {l} {m} h p =
-    let x = get_or piece i 0 in
-    let one : Put (x ∷ []) (at + i) m (at + (i + 1)) (set m (at + i) x) = record { next = omega arith; stored = refl } in
-    rw (add-one i, take-suc piece i 0 h) (rw (add-one i) at (then p one))
-
-pub put_end :
-    (piece : List ℕ) (at i : ℕ) {l m : List ℕ} → length piece ≤ i → Put (take i piece) at l (at + i) m
-    → Put piece at l (at + i) m
-put_end piece at i h p = reads_as (sym (take_all i piece h)) p
+pub copied :
+    (piece : List ℕ) (at : ℕ) {l m : List ℕ} → at + length piece ≤ length l → m ≡ piece
+    → Put piece at l (at + length piece) (put_mid at (at + length piece - at) l m)
+copied piece at {l} {m} h e =
+    let n = length piece in
+    record {
+      next = refl;
+      stored = put_mid-paste at (at + n - at) l m piece n e (omega arith) refl ∙ rw (take_all n piece (le_refl n)) (sym (sets-eq piece l at h));
+    }
 
 -- ---- the whole line
 

@@ -1,5 +1,6 @@
 // Pieces of a line into a lent buffer: each put stores a piece from a place on, and answers the place behind it. The
-// buffer is a slice here: lending an array as a slice is what tells its length.
+// buffer is a slice here: lending an array as a slice is what tells its length. It is no `String`: nothing below the programs has a heap, and
+// `Written` promises the bytes behind the line too (the edits `one_byte_too_many` and `byte_past_the_text`).
 #![tactic(auto)]
 
 ghost use Rattle.std.specs.Prelude.{◌+◌, ◌≤◌, ◌<◌, ◌≡◌, [], ◌∷◌, ◌++◌, length};
@@ -11,7 +12,7 @@ pub fn digit(d: u64) -> u8
     requires { d < 10 }
     ensures { result ≡ 48 + d }
 {
-    48 + d as u8
+    b'0' + d as u8
 }
 
 fn put_digit(out: &mut [u8], at: usize, d: u64) -> usize
@@ -26,12 +27,9 @@ pub fn put(out: &mut [u8], at: usize, piece: &[u8]) -> usize
     requires { at + length piece.now ≤ length out.old }
     ensures { Put piece.now at out.old result out.new }
 {
-    let mut i = 0;
-    while i < piece.len() {
-        out[at + i] = piece[i];
-        i += 1;
-    }
-    at + i
+    let end = at + piece.len();
+    out[at..end].copy_from_slice(piece);
+    end
 }
 
 // The digits of n / 10, and then the last: at most 20 calls deep.

@@ -6,15 +6,17 @@ use lib.Dec.{eqb}
 use Rattle.lists.proofs.Bits.{number_off}
 use Rattle.rules.specs.declared.Conf.{Conf}
 use Rattle.rules.specs.declared.Pair.{Pair}
-use Rattle.rules.specs.Reasons.{Reason, NotKept, reason_number}
+use Rattle.rules.specs.declared.Reason.{Reason}
+use Rattle.rules.specs.declared.Reason.TheVariants.{NotKept}
+use Rattle.rules.specs.Numbers.{reason_number}
 use Rattle.rules.specs.Tools.Computed.{reason_of, allowed_test}
 use Rattle.calls.specs.Ask.{is_allowed, move_set}
 use Rattle.reasons.specs.declared.Looked.{Looked}
-use Rattle.reasons.specs.Reasoning.{LookedAt}
+use Rattle.reasons.specs.Reasoning.{Looks}
 use Rattle.reasons.proofs.Looking.{looked_set}
 
 module _ (X : Pair) (k : List ℕ) (c : Conf) where
-  pub set_looked : {z : Looked} → LookedAt X k c 0 64 z → z.set ≡ move_set X k c
+  pub set_looked : {z : Looked} → Looks (reason_of X k c) 0 64 z → z.set ≡ move_set X k c
   unfolding move_set allowed_test
   set_looked s = looked_set (reason_of X k c) s
 

@@ -2,14 +2,12 @@
 // The functions assume that the bytes of the rows they look at are there, and say so in their `requires`.
 #![tactic(auto)]
 
-ghost use Rattle.std.specs.Prelude.{◌≡◌, ◌+◌, ◌*◌, ◌≤◌, length};
-ghost use Rattle.lists.specs.Search.{first};
-ghost use Rattle.format.specs.Verdicts.{verdict_of};
+ghost use Rattle.std.specs.Prelude.{◌≡◌, ◌+◌, ◌*◌, ◌≤◌, ◌<◌, length, Some};
+ghost use Rattle.format.specs.Verdicts.{refusal, verdict_of};
 ghost use Rattle.format.specs.Format.{zero_row, rows_in, row_at};
 ghost use Rattle.format.specs.Reads.{row_fits, rises, bad_row, fall_row, row_checks};
 
-use format::{Row, Verdict};
-use widths::wide;
+use format::{Fault, Refusal, Row, Side, Verdict};
 
 pub const HEADER: usize = 9;
 
@@ -47,40 +45,21 @@ pub fn row_at(b: &[u8], i: usize) -> Row
 fn row_fits(n: u8, d: u8, m: u8, r: Row) -> bool
     ensures { result ≡ row_fits n d m r }
 {
-    if n <= r.state {
-        return false;
-    }
-    if d <= r.drive {
-        return false;
-    }
-    if 16 <= r.answer {
-        return false;
-    }
-    if m < r.item {
-        return false;
-    }
-    r.next < n
+    r.state < n && r.drive < d && r.answer < 16 && r.item <= m && r.next < n
 }
 
 // Does the second row stand above the first, by state, then drive, then answer?
 fn is_rising(a: Row, b: Row) -> bool
     ensures { result ≡ rises a b }
 {
-    if a.state == b.state {
-        if a.drive == b.drive {
-            return a.answer < b.answer;
-        }
-        return a.drive < b.drive;
-    }
-    a.state < b.state
+    (a.state, a.drive, a.answer) < (b.state, b.drive, b.answer)
 }
 
 fn bad_row(b: &[u8], i: usize) -> bool
     requires { 9 + 5 * (i + 1) ≤ length b.now }
     ensures { result ≡ bad_row b.now i }
 {
-    let fits = row_fits(b[4], b[7], MOST_ITEMS, row_at(b, i));
-    !fits
+    !row_fits(b[4], b[7], MOST_ITEMS, row_at(b, i))
 }
 
 // Does row i stand after another and not rise above it?
@@ -88,62 +67,31 @@ fn fall_row(b: &[u8], i: usize) -> bool
     requires { 9 + 5 * (i + 1) ≤ length b.now }
     ensures { result ≡ fall_row b.now i }
 {
-    if i == 0 {
-        return false;
-    }
-    let up = is_rising(row_at(b, i - 1), row_at(b, i));
-    !up
+    0 < i && !is_rising(row_at(b, i - 1), row_at(b, i))
 }
 
-fn first_bad(b: &[u8], n: usize) -> usize
-    requires { 9 + 5 * n ≤ length b.now }
-    ensures { result ≡ first (bad_row b.now) n }
+fn refuse_row(fault: Fault, side: Side, row: usize) -> Refusal
+    requires { row < 64 }
+    ensures { result ≡ refusal fault (Some side) row }
 {
-    let mut i = 0;
-    while i < n {
-        if bad_row(b, i) {
-            return i;
-        }
-        i += 1;
+    Refusal {
+        fault,
+        side: Some(side),
+        row: row as u16,
     }
-    i
-}
-
-fn first_fall(b: &[u8], n: usize) -> usize
-    requires { 9 + 5 * n ≤ length b.now }
-    ensures { result ≡ first (fall_row b.now) n }
-{
-    let mut i = 0;
-    while i < n {
-        if fall_row(b, i) {
-            return i;
-        }
-        i += 1;
-    }
-    i
 }
 
 // Refusals 7 and 8: 7 is tried over the whole table first.
-pub fn check_rows(b: &[u8], s: u8) -> Verdict
+pub fn check_rows(b: &[u8], side: Side) -> Verdict
     requires { (rows_in b.now ≤ 64) × (9 + 5 * rows_in b.now ≤ length b.now) }
-    ensures { result ≡ verdict_of (row_checks b.now s) }
+    ensures { result ≡ verdict_of (row_checks b.now side) }
 {
-    let n = wide(b[8]);
-    let bad = first_bad(b, n);
-    if bad < n {
-        return Verdict::Refused {
-            number: 7,
-            side: s,
-            row: bad as u16,
-        };
+    let n = usize::from(b[8]);
+    if let Some(bad) = (0..n).position(|i| bad_row(b, i)) {
+        return Err(refuse_row(Fault::BadField, side, bad));
     }
-    let fall = first_fall(b, n);
-    if fall < n {
-        return Verdict::Refused {
-            number: 8,
-            side: s,
-            row: fall as u16,
-        };
+    if let Some(fall) = (0..n).position(|i| fall_row(b, i)) {
+        return Err(refuse_row(Fault::NotRising, side, fall));
     }
-    Verdict::Fine
+    Ok(())
 }

@@ -16,8 +16,10 @@ use Rattle.rules.specs.declared.Conf.{Conf}
 use Rattle.rules.specs.declared.Pair.{Pair}
 use Rattle.rules.specs.Configurations.{May, has_room, has_stock, passes, after, Outcome}
 use Rattle.rules.specs.Sets.{AllowedIn}
-use Rattle.rules.specs.Reasons.{Reason, Allowed, NotKept, NoWriterRow, NoReaderRow, Overflows, Underflows, LandsOutside}
-use Rattle.rules.specs.Reasons.{reason_number, overflows, underflows, Applies, ReasonIs}
+use Rattle.rules.specs.Reasons.{overflows, underflows, Applies, ReasonIs}
+use Rattle.rules.specs.declared.Reason.{Reason}
+use Rattle.rules.specs.declared.Reason.TheVariants.{Allowed, NotKept, NoWriterRow, NoReaderRow, Overflows, Underflows, LandsOutside}
+use Rattle.rules.specs.Numbers.{reason_number}
 use Rattle.rules.specs.Tools.Computed.{first_of}
 
 -- ---- an overflow and an underflow under each rule

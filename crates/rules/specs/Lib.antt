@@ -1,3 +1,4 @@
+pub mod Numbers
 pub mod Configurations
 pub mod Ways
 pub mod Sets

@@ -6,28 +6,11 @@ use Rattle.std.specs.Prelude.{Bool, not, ℕ, ◌<◌, T}
 use Rattle.format.specs.declared.Row.{Row}
 use Rattle.rules.specs.declared.Conf.{Conf}
 use Rattle.rules.specs.declared.Pair.{Pair}
+use Rattle.rules.specs.declared.Reason.{Reason}
+use Rattle.rules.specs.declared.Reason.TheVariants.{Allowed, NotKept, NoWriterRow, NoReaderRow, Overflows, Underflows, LandsOutside}
+use Rattle.rules.specs.Numbers.{reason_number}
 use Rattle.rules.specs.Configurations.{May, has_room, has_stock, after, Outcome}
 use Rattle.rules.specs.Sets.{AllowedIn}
-
-pub data Reason : Type 0 where
-  Allowed : Reason
-  NotKept : Reason
-  NoWriterRow : Reason
-  NoReaderRow : Reason
-  Overflows : Reason
-  Underflows : Reason
-  LandsOutside : Reason
-
--- "0 allowed, 1 configuration not kept, 2 no writer row, 3 no reader row, 4 some outcome overflows, 5 some outcome underflows, 6 some outcome
--- lands outside the kept set"
-abbrev pub reason_number : Reason → ℕ
-reason_number Allowed = 0
-reason_number NotKept = 1
-reason_number NoWriterRow = 2
-reason_number NoReaderRow = 3
-reason_number Overflows = 4
-reason_number Underflows = 5
-reason_number LandsOutside = 6
 
 -- an outcome overflows if there is no room for what is written, and underflows if what is taken is not there, by the rule of the pair
 module _ (X : Pair) (level : ℕ) (w r : Row) where

@@ -1,46 +1,72 @@
 -- Refusals 10, 12 and 13 of a step, by the tests that the code meets in their order. Assumes nothing.
-use Prim.Native.Nat.{ℕ}
-use mathlib.Core.Path.{◌≡◌, refl, sym, ap, ◌∙◌}
+use Prim.Native.Nat.{ℕ, zero, suc, ◌-◌}
+use native.Mathlib.Omega.{arith}
+use mathlib.Core.Path.{◌≡◌, refl, sym, ◌∙◌}
 use mathlib.Core.Bool.{Bool, true, false, cond, not, ◌||◌}
 use mathlib.Core.List.{List, [], ◌∷◌}
-use Rattle.lists.specs.Search.{some}
-use Rattle.format.specs.declared.Verdict.{Verdict}
-use Rattle.format.specs.declared.Verdict.TheVariants.{Fine, Refused}
-use Rattle.format.specs.Verdicts.{verdict_of}
-use Rattle.format.proofs.Verdicts.{fine_goes_on, refused_stays}
+use Rattle.lists.specs.Search.{some, seek, yes, no}
+use Rattle.format.specs.Verdicts.{Verdict, Fine, unsided, Check, verdict_of, and_then}
+use lib.Dec.{eqb}
+use lib.ListN.{length, get_or, drop}
+use lib.Seq.{drop-cons}
+use Rattle.std.specs.List.{list_any}
+use Rattle.std.proofs.lemmas.List.{drop_all}
+use Rattle.format.proofs.Verdicts.{refused_not_fine, verdict_append}
 use Rattle.rules.specs.declared.Pair.{Pair}
 use Rattle.rules.specs.Configurations.{size}
 use Rattle.calls.specs.declared.Run.{Run}
-use Rattle.calls.specs.Refusals.{lent_checks, in_range}
+use Rattle.calls.specs.Refusals.{lent_checks, in_range, conf_check}
+use Rattle.calls.specs.Ask.{asks_checks}
 use Rattle.calls.specs.Runs.{conf_of}
 use Rattle.calls.specs.Step.{nonzero, run_check, open_checks}
-use Rattle.numbers.specs.declared.places.Frame.{Frame}
-use Rattle.numbers.specs.Frames.{frame_of, inside_of}
-use Rattle.outcomes.proofs.Framed.{framed_range}
+use Rattle.std.specs.Prelude.{Ok, Err}
+use Rattle.format.specs.declared.Fault.TheVariants.{NoConfiguration}
+use Rattle.format.specs.declared.Refusal.{Refusal}
 
--- out of range, or a place at or past the level is not zero
-abbrev pub senseless : Bool → Run → Bool
-senseless inside u = not inside || some (nonzero u.items) u.level 16
+-- ---- the places past the level, as a search of the list
 
--- 13, by that test
-abbrev chosen : Bool → Verdict
-chosen t = cond t (Refused 13 0 0) Fine
+or_is : (a b : Bool) → (a || b) ≡ cond a true b
+or_is true b = refl
+or_is false b = refl
 
--- by the frame of the pair
-pub framed_sense : (X : Pair) {f : Frame} → f ≡ frame_of X → (u : Run) {t : Bool}
-    → t ≡ senseless (inside_of f (conf_of u)) u → t ≡ senseless (in_range X (conf_of u)) u
-framed_sense X framed u e = e ∙ ap (λ (z : Bool). senseless z u) (framed_range X framed (conf_of u) refl)
+places_by : (items : List ℕ) (k i : ℕ) → k ≡ length items - i → list_any (λ n. not (eqb n 0)) (drop i items) ≡ seek (nonzero items) yes no i k
+unfolding seek
+places_by items zero i e = rw (drop_all i items (omega arith))
+places_by items (suc k) i e =
+    rw (drop-cons items i 0 (omega arith), ← places_by items k (suc i) (omega arith))
+    (or_is (not (eqb (get_or items i 0) 0)) _)
 
-module _ (X : Pair) (bytes : List ℕ) (u : Run) {b : Verdict} (told : b ≡ verdict_of (lent_checks (size X) bytes)) where
-  pub lent_refused : {n s r : ℕ} → b ≡ Refused n s r → b ≡ verdict_of (open_checks X bytes u)
-  lent_refused e = told ∙ refused_stays (lent_checks (size X) bytes) (run_check X u ∷ []) (sym told ∙ e)
+pub places_from :
+    (items : List ℕ) (from : ℕ) {r : Bool} → length items ≡ 16 → r ≡ list_any (λ n. not (eqb n 0)) (drop from items)
+    → r ≡ some (nonzero items) from 16
+places_from items from long e = e ∙ places_by items (16 - from) from (omega arith)
 
-  module _ (fine : b ≡ Fine) {t : Bool} (sense : t ≡ senseless (in_range X (conf_of u)) u) where
-    run_is : verdict_of (run_check X u ∷ []) ≡ verdict_of (open_checks X bytes u)
-    run_is = fine_goes_on (lent_checks (size X) bytes) (run_check X u ∷ []) (sym told ∙ fine)
+-- ---- 10, 12 and 13, after ask's
 
-    pub run_refused : t ≡ true → Refused 13 0 0 ≡ verdict_of (open_checks X bytes u)
-    run_refused e = ap chosen (sym e ∙ sense) ∙ run_is
+module _ (x : Refusal) where
+  still_refused : (v : Verdict) (b s : Bool) {r : Refusal} → and_then v (cond (not b) (Err x) Fine) ≡ Err r → and_then v (cond (not b || s) (Err x) Fine) ≡ Err r
+  still_refused (Err _) b s e = e
+  still_refused (Ok _) false s e = e
+  still_refused (Ok _) true s e = absurd (refused_not_fine (sym e))
 
-    pub run_fine : t ≡ false → Fine ≡ verdict_of (open_checks X bytes u)
-    run_fine e = ap chosen (sym e ∙ sense) ∙ run_is
+  then_places : (v : Verdict) (b s : Bool) → and_then v (cond (not b) (Err x) Fine) ≡ Fine → and_then v (cond (not b || s) (Err x) Fine) ≡ cond s (Err x) Fine
+  then_places (Err _) b s e = absurd (refused_not_fine e)
+  then_places (Ok _) false s e = absurd (refused_not_fine e)
+  then_places (Ok _) true s e = refl
+
+module _ (X : Pair) (bytes : List ℕ) (u : Run) where
+  abbrev lent : List Check
+  lent = lent_checks (size X) bytes
+
+  abbrev held : Bool
+  held = some (nonzero u.items) u.level 16
+
+  pub run_refused : {r : Refusal} → verdict_of (asks_checks X bytes (conf_of u)) ≡ Err r → Err r ≡ verdict_of (open_checks X bytes u)
+  run_refused e =
+      sym (verdict_append lent (run_check X u ∷ [])
+      ∙ still_refused (unsided NoConfiguration) (verdict_of lent) (in_range X (conf_of u)) held (sym (verdict_append lent (conf_check X (conf_of u) ∷ [])) ∙ e))
+
+  pub run_is : verdict_of (asks_checks X bytes (conf_of u)) ≡ Fine → cond held (Err (unsided NoConfiguration)) Fine ≡ verdict_of (open_checks X bytes u)
+  run_is e =
+      sym (verdict_append lent (run_check X u ∷ [])
+      ∙ then_places (unsided NoConfiguration) (verdict_of lent) (in_range X (conf_of u)) held (sym (verdict_append lent (conf_check X (conf_of u) ∷ [])) ∙ e))

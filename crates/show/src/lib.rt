@@ -3,6 +3,7 @@
 #![tactic(auto)]
 
 use format::Verdict;
+use std::fmt::Display;
 use std::io;
 use std::io::Write;
 
@@ -10,47 +11,25 @@ pub fn text<W: Write>(out: &mut W, t: &[u8]) -> io::Result<()> {
     out.write_all(t)
 }
 
-// A byte of a line, or the next number in its place; the answer is which number is next then.
-fn piece<W: Write>(out: &mut W, b: u8, numbers: &[u64], next: usize) -> io::Result<usize> {
-    if b == b'%' {
-        if next < numbers.len() {
-            write!(out, "{}", numbers[next])?;
-            return Ok(next + 1);
-        }
-    }
-    let one = [b];
-    text(out, &one)?;
-    Ok(next)
-}
-
 // The text with the numbers, in decimal, in place of its `%`.
 pub fn line<W: Write>(out: &mut W, t: &[u8], numbers: &[u64]) -> io::Result<()> {
-    let mut next = 0;
-    for b in t {
-        next = piece(out, *b, numbers, next)?;
+    let mut rest = numbers.iter();
+    for &b in t {
+        if b == b'%'
+            && let Some(n) = rest.next()
+        {
+            write!(out, "{n}")?;
+        } else {
+            text(out, &[b])?;
+        }
     }
     Ok(())
-}
-
-fn byte<W: Write>(out: &mut W, b: u8) -> io::Result<()> {
-    write!(out, " {b}")
 }
 
 // Each with a space in front.
-pub fn bytes<W: Write>(out: &mut W, all: &[u8]) -> io::Result<()> {
-    for b in all {
-        byte(out, *b)?;
-    }
-    Ok(())
-}
-
-fn item<W: Write>(out: &mut W, n: u32) -> io::Result<()> {
-    write!(out, " {n}")
-}
-
-pub fn items<W: Write>(out: &mut W, all: &[u32]) -> io::Result<()> {
+pub fn items<W: Write, T: Display>(out: &mut W, all: &[T]) -> io::Result<()> {
     for n in all {
-        item(out, *n)?;
+        write!(out, " {n}")?;
     }
     Ok(())
 }
@@ -58,9 +37,13 @@ pub fn items<W: Write>(out: &mut W, all: &[u32]) -> io::Result<()> {
 // What was called, and its verdict: a word of the caller's where it is fine.
 pub fn verdict<W: Write>(out: &mut W, name: &[u8], fine: &[u8], v: Verdict) -> io::Result<()> {
     text(out, name)?;
-    let Verdict::Refused { number, side, row } = v else {
+    let Err(refusal) = v else {
         return text(out, fine);
     };
-    let numbers = [number as u64, side as u64, row as u64];
+    let numbers = [
+        u64::from(refusal.fault.number()),
+        u64::from(refusal.side_number()),
+        u64::from(refusal.row),
+    ];
     line(out, b": refused % side % row %,", &numbers)
 }

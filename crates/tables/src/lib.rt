@@ -3,36 +3,14 @@
 #![tactic(auto)]
 
 ghost use Rattle.std.specs.Prelude.{◌≡◌, ◌+◌, ◌*◌, ◌≤◌, length};
-ghost use Rattle.format.specs.Verdicts.{side_number, verdict_of};
+ghost use Rattle.format.specs.Verdicts.{verdict_of};
 ghost use Rattle.format.specs.Format.{rows_in, rows_of, table_of};
 ghost use Rattle.format.specs.Reads.{length_wrong, range_wrong, header_checks, checks, refused_as, read_of};
 
-use format::{Reading, Row, Side, Table, Verdict};
+use format::{Fault, Reading, Refusal, Row, Side, Table, Verdict};
 use rows::{HEADER, ROW_SIZE, check_rows, row_at, zero_row};
-use widths::wide;
 
 const VERSION: u8 = 1;
-
-// A side's number, which is its role byte too.
-fn side_number(side: Side) -> u8
-    ensures { result ≡ side_number side }
-{
-    match side {
-        Side::Writer => 1,
-        Side::Reader => 2,
-    }
-}
-
-// A refusal that names no row: every call makes its refusals by it.
-pub fn refuse(number: u8, side: u8) -> Verdict
-    ensures { result ≡ Verdict.Refused number side 0 }
-{
-    Verdict::Refused {
-        number: number,
-        side: side,
-        row: 0,
-    }
-}
 
 // Refusal 5: are states, letters or rows outside their ranges?
 fn range_wrong(b: &[u8]) -> bool
@@ -65,53 +43,50 @@ fn length_wrong(b: &[u8]) -> bool
     requires { 9 ≤ length b.now }
     ensures { result ≡ length_wrong b.now }
 {
-    let field = 256 * wide(b[1]) + wide(b[2]);
+    let field = 256 * usize::from(b[1]) + usize::from(b[2]);
     if field != b.len() - 3 {
         return true;
     }
-    if field != 6 + ROW_SIZE * wide(b[8]) {
+    if field != 6 + ROW_SIZE * usize::from(b[8]) {
         return true;
     }
     false
 }
 
 // Refusals 1 to 6.
-fn check_header(b: &[u8], s: u8) -> Verdict
-    ensures { result ≡ verdict_of (header_checks b.now s) }
+fn check_header(b: &[u8], side: Side) -> Verdict
+    ensures { result ≡ verdict_of (header_checks b.now side) }
 {
     if b.len() < HEADER {
-        return refuse(1, s);
+        return Err(Refusal::of(Fault::Short, side));
     }
     if b[0] != VERSION {
-        return refuse(2, s);
+        return Err(Refusal::of(Fault::UnknownVersion, side));
     }
     if length_wrong(b) {
-        return refuse(3, s);
+        return Err(Refusal::of(Fault::UntrueLength, side));
     }
-    if b[3] != s {
-        return refuse(4, s);
+    if b[3] != side.number() {
+        return Err(Refusal::of(Fault::WrongRole, side));
     }
     if range_wrong(b) {
-        return refuse(5, s);
+        return Err(Refusal::of(Fault::OutOfRange, side));
     }
     let n = b[4];
     if n <= b[5] {
-        return refuse(6, s);
+        return Err(Refusal::of(Fault::NoSuchEnd, side));
     }
     if n <= b[6] {
-        return refuse(6, s);
+        return Err(Refusal::of(Fault::NoSuchEnd, side));
     }
-    Verdict::Fine
+    Ok(())
 }
 
-fn check(b: &[u8], s: u8) -> Verdict
-    ensures { result ≡ verdict_of (checks b.now s) }
+fn check(b: &[u8], side: Side) -> Verdict
+    ensures { result ≡ verdict_of (checks b.now side) }
 {
-    let header = check_header(b, s);
-    let Verdict::Fine = header else {
-        return header;
-    };
-    check_rows(b, s)
+    check_header(b, side)?;
+    check_rows(b, side)
 }
 
 // The rows of the bytes, and zeros after them.
@@ -120,18 +95,16 @@ fn fill(b: &[u8], n: usize) -> [Row; 64]
     ensures { result ≡ rows_of b.now }
 {
     let mut rows = [zero_row(); 64];
-    let mut i = 0;
-    while i < n {
+    for i in 0..n {
         rows[i] = row_at(b, i);
-        i += 1;
     }
     rows
 }
 
-fn refused(verdict: Verdict) -> Reading
-    ensures { result ≡ refused_as verdict }
+// A refused reading: every field of its table is zero.
+fn refused(refusal: Refusal) -> Reading
+    ensures { result ≡ refused_as refusal }
 {
-    let rows = [zero_row(); 64];
     let table = Table {
         version: 0,
         role: 0,
@@ -140,11 +113,11 @@ fn refused(verdict: Verdict) -> Reading
         finish: 0,
         letters: 0,
         count: 0,
-        rows: rows,
+        rows: [zero_row(); 64],
     };
     Reading {
-        table: table,
-        verdict: verdict,
+        table,
+        verdict: Err(refusal),
     }
 }
 
@@ -152,7 +125,7 @@ fn taken(b: &[u8]) -> Table
     requires { (rows_in b.now ≤ 64) × (9 + 5 * rows_in b.now ≤ length b.now) }
     ensures { result ≡ table_of b.now }
 {
-    let rows = fill(b, wide(b[8]));
+    let rows = fill(b, usize::from(b[8]));
     Table {
         version: b[0],
         role: b[3],
@@ -161,7 +134,7 @@ fn taken(b: &[u8]) -> Table
         finish: b[6],
         letters: b[7],
         count: b[8],
-        rows: rows,
+        rows,
     }
 }
 
@@ -169,12 +142,11 @@ fn taken(b: &[u8]) -> Table
 pub fn read(bytes: &[u8], side: Side) -> Reading
     ensures { result ≡ read_of bytes.now side }
 {
-    let verdict = check(bytes, side_number(side));
-    let Verdict::Fine = verdict else {
-        return refused(verdict);
-    };
-    Reading {
-        table: taken(bytes),
-        verdict: Verdict::Fine,
+    match check(bytes, side) {
+        Ok(()) => Reading {
+            table: taken(bytes),
+            verdict: Ok(()),
+        },
+        Err(refusal) => refused(refusal),
     }
 }

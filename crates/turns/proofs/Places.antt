@@ -11,7 +11,7 @@ use Rattle.lists.specs.Lists.{tab}
 use Rattle.lists.proofs.Rest.{le_or_lt}
 use Rattle.lists.proofs.Tab.{length_tab, tab_at}
 use Rattle.format.specs.declared.Row.{Row}
-use Rattle.format.specs.declared.Verdict.TheVariants.{Fine}
+use Rattle.format.specs.Verdicts.{Fine}
 use Rattle.calls.specs.declared.Run.{Run}
 use Rattle.calls.specs.Items.{firsts, queued, delivered, held_after, padded}
 use Rattle.calls.specs.Runs.{held_at, held_of}

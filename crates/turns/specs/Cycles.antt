@@ -1,30 +1,24 @@
 -- A mirror of the code, which a reader need not believe: the parts of a cycle as the functions make them, and what they take from the 16 places.
 -- Assumes nothing. (That it is what Step.antt says is proved: proofs/Turning.antt, proofs/Places.antt.)
 use Rattle.std.specs.Prelude.{ℕ, ◌+◌, ◌<◌, cond, List, [], ◌∷◌, ltb, eqb}
-use Rattle.lists.specs.Search.{seek}
-use Rattle.format.specs.Verdicts.{Check, verdict_of, given}
+use Rattle.format.specs.declared.Side.TheVariants.{Writer, Reader}
+use Rattle.format.specs.Verdicts.{Check}
 use Rattle.format.specs.Good.{row}
 use Rattle.rules.specs.declared.Pair.{Pair}
 use Rattle.rules.specs.Configurations.{GoodPair}
 use Rattle.calls.specs.declared.Run.{Run}
 use Rattle.calls.specs.declared.Cycle.{Cycle}
-use Rattle.calls.specs.declared.Stepped.{Stepped}
 use Rattle.calls.specs.Runs.{held_at}
-use Rattle.calls.specs.Step.{writer_found, reader_found, row_check, done_by, done_of, refused_step}
+use Rattle.calls.specs.Step.{writer_found, reader_found, row_check}
 use Rattle.calls.specs.Past.{Movable}
 
 -- ---- the parts of a cycle
 
 -- 16
 abbrev pub row_checks : Pair → Run → Cycle → List Check
-row_checks X u c = row_check X.writer 1 (writer_found X u c) ∷ row_check X.reader 2 (reader_found X u c) ∷ []
+row_checks X u c = row_check X.writer Writer (writer_found X u c) ∷ row_check X.reader Reader (reader_found X u c) ∷ []
 
--- a cycle past 15
-unfoldable pub by_answers : Pair → Run → Cycle → Stepped
-unfolding seek done_by
-by_answers X u c = given (verdict_of (row_checks X u c)) (refused_step u) (done_of X u c)
-
--- what is known there: if both answers fix a row, the run can move by the two (`Movable`)
+-- what is known of a cycle past 15: if both answers fix a row, the run can move by the two (`Movable`)
 pub record Answerable (X : Pair) (u : Run) (c : Cycle) : Type 0 where
   pub good : GoodPair X
   pub movable : writer_found X u c < X.writer.count → reader_found X u c < X.reader.count

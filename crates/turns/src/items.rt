@@ -32,10 +32,8 @@ pub fn moved(items: [u32; 16], level: usize, incoming: u32, taken: usize, n: usi
     ensures { result ≡ padded (tab (left_at items level incoming taken) n) }
 {
     let mut left = [0u32; 16];
-    let mut i: usize = 0;
-    while i < n {
+    for i in 0..n {
         left[i] = queued_at(items, level, incoming, taken + i);
-        i += 1;
     }
     left
 }

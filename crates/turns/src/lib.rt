@@ -1,72 +1,54 @@
 // A cycle of a run, past the call's own checks: refusals 14, 15 and 16, then what the two rows do. Document 01, step.
 #![tactic(auto)]
 
-ghost use Rattle.std.specs.Prelude.{◌≡◌, ◌&&◌, [], ◌∷◌, ◌≤◌, eqb};
-ghost use Rattle.rules.specs.Tools.Computed.{is_for, row_with};
+ghost use Rattle.std.specs.Prelude.{◌≡◌, ◌&&◌, [], ◌∷◌, ◌≤◌, eqb, take, None};
+ghost use Rattle.std.specs.List.{find};
+ghost use Rattle.rules.specs.Tools.Computed.{is_for};
+ghost use Rattle.rules.specs.Numbers.{reason_number};
+ghost use Rattle.format.specs.Verdicts.{refusal, verdict_of, unless};
+ghost use Rattle.format.specs.declared.Fault.TheVariants.{NotAllowed};
 ghost use Rattle.calls.specs.Runs.{conf_of};
-ghost use Rattle.calls.specs.Step.{done_by, refused_step, turn_of};
+ghost use Rattle.calls.specs.Step.{done_by, done_of, turn_checks};
 ghost use Rattle.calls.specs.Past.{Askable, Movable};
-ghost use Rattle.turns.specs.Cycles.{by_answers, Answerable};
+ghost use Rattle.turns.specs.Cycles.{row_checks, Answerable};
 
 mod items;
 
 use calls::{Cycle, Run, Stepped};
-use format::{Row, Table, Verdict};
+use format::{Fault, Refusal, Row, Side, Table};
 use items::{front, moved};
 use outcomes::landed;
-use reasons::{ALLOWED, check_letters, reason_at};
-use rules::{Conf, Pair};
-use tables::refuse;
+use reasons::{check_letters, reason_at};
+use rules::{Conf, Pair, Reason};
 
 // Refusal 15: "carries [the reason] in the row field" (request b).
-fn not_allowed(reason: u8) -> Verdict
-    ensures { result ≡ Verdict.Refused 15 0 reason }
+fn not_allowed(reason: Reason) -> Refusal
+    ensures { result ≡ refusal NotAllowed None (reason_number reason) }
 {
-    Verdict::Refused {
-        number: 15,
-        side: 0,
-        row: reason as u16,
+    Refusal {
+        fault: Fault::NotAllowed,
+        side: None,
+        row: u16::from(reason.number()),
     }
 }
 
 fn is_for(row: Row, state: u64, letter: u64, answer: u64) -> bool
     ensures { result ≡ (is_for state letter row && eqb row.answer answer) }
 {
-    if (row.state as u64) != state {
-        return false;
-    }
-    if (row.drive as u64) != letter {
-        return false;
-    }
-    (row.answer as u64) == answer
+    u64::from(row.state) == state
+        && u64::from(row.drive) == letter
+        && u64::from(row.answer) == answer
 }
 
-// The index of the row that state, letter and answer fix, and the count of rows where there is none.
-fn row_of(t: Table, state: u64, letter: u64, answer: u64) -> usize
-    requires { t.count ≤ 64 }
-    ensures { result ≡ row_with t state letter answer }
+// The row that state, letter and answer fix.
+fn row_of(t: &Table, state: u64, letter: u64, answer: u64) -> Option<Row>
+    requires { t.now.count ≤ 64 }
+    ensures { result ≡ find (λ r. is_for state letter r && eqb r.answer answer) (take t.now.count t.now.rows) }
 {
-    let n = t.count as usize;
-    let mut i: usize = 0;
-    while i < n {
-        let row = t.rows[i];
-        if is_for(row, state, letter, answer) {
-            return i;
-        }
-        i += 1;
-    }
-    i
-}
-
-pub fn refused(verdict: Verdict, run: Run) -> Stepped
-    ensures { result ≡ refused_step run verdict }
-{
-    Stepped {
-        verdict: verdict,
-        run: run,
-        item: 0,
-        mark: 0,
-    }
+    let rows = &t.rows[..usize::from(t.count)];
+    rows.iter()
+        .copied()
+        .find(|row| is_for(*row, state, letter, answer))
 }
 
 // A cycle that is done with the rows w and r.
@@ -76,66 +58,62 @@ fn done(run: Run, w: Row, r: Row, incoming: u32) -> Stepped
 {
     let items = run.items;
     let level = run.level as u8;
+    let held = usize::from(level);
     let to = landed(level, w.item, r.item);
-    let left = moved(
-        items,
-        level as usize,
-        incoming,
-        r.item as usize,
-        to as usize,
-    );
+    let left = moved(items, held, incoming, usize::from(r.item), usize::from(to));
     let next = Run {
-        writer: w.next as u64,
-        reader: r.next as u64,
-        level: to as u64,
+        writer: u64::from(w.next),
+        reader: u64::from(r.next),
+        level: u64::from(to),
         items: left,
     };
     Stepped {
-        verdict: Verdict::Fine,
+        verdict: Ok(()),
         run: next,
-        item: front(items, level as usize, incoming, r.item),
-        mark: r.item as u32,
+        item: front(items, held, incoming, r.item),
+        mark: u32::from(r.item),
     }
 }
 
 // Past 15: refusal 16, then the rows that the answers fix.
-fn by_answers(p: Pair, run: Run, cycle: Cycle) -> Stepped
+fn by_answers(p: Pair, run: Run, cycle: Cycle) -> Result<Stepped, Refusal>
     requires { Answerable p run cycle }
-    ensures { result ≡ by_answers p run cycle }
+    ensures { result ≡ unless (verdict_of (row_checks p run cycle)) (done_of p run cycle) }
 {
-    let w = p.writer;
-    let a = row_of(w, run.writer, cycle.writer_letter, cycle.writer_answer);
-    if (w.count as usize) <= a {
-        return refused(refuse(16, 1), run);
-    }
-    let r = p.reader;
-    let b = row_of(r, run.reader, cycle.reader_letter, cycle.reader_answer);
-    if (r.count as usize) <= b {
-        return refused(refuse(16, 2), run);
-    }
-    let written = w.rows[a];
-    let taken = r.rows[b];
-    done(run, written, taken, cycle.incoming)
+    let Some(written) = row_of(
+        &p.writer,
+        run.writer,
+        cycle.writer_letter,
+        cycle.writer_answer,
+    ) else {
+        return Err(Refusal::of(Fault::NoRow, Side::Writer));
+    };
+    let Some(taken) = row_of(
+        &p.reader,
+        run.reader,
+        cycle.reader_letter,
+        cycle.reader_answer,
+    ) else {
+        return Err(Refusal::of(Fault::NoRow, Side::Reader));
+    };
+    Ok(done(run, written, taken, cycle.incoming))
 }
 
-pub fn turn(p: Pair, kept: &[u8], run: Run, cycle: Cycle) -> Stepped
+pub fn turn(p: Pair, kept: &[u8], run: Run, cycle: Cycle) -> Result<Stepped, Refusal>
     requires { Askable p kept.now (conf_of run) }
-    ensures { result ≡ turn_of p kept.now run cycle }
+    ensures { result ≡ unless (verdict_of (turn_checks p kept.now run cycle)) (done_of p run cycle) }
 {
     let x = cycle.writer_letter;
     let y = cycle.reader_letter;
-    let v = check_letters(p, x, y);
-    let Verdict::Fine = v else {
-        return refused(v, run);
-    };
+    check_letters(p, x, y)?;
     let c = Conf {
         writer: run.writer as u8,
         reader: run.reader as u8,
         level: run.level as u8,
     };
     let reason = reason_at(kept, p, c, x as u8, y as u8);
-    if reason == ALLOWED {
+    if reason.is_allowed() {
         return by_answers(p, run, cycle);
     }
-    refused(not_allowed(reason), run)
+    Err(not_allowed(reason))
 }

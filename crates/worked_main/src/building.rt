@@ -1,5 +1,6 @@
 // The builder on cases 1 to 7 of document 01, on pairs A and C under flow-through, and on its refusals, into a buffer that is longer than N: its
 // tail has to stand.
+use calls::Call;
 use std::io;
 use std::io::Write;
 use worked::{A_READER, A_WRITER, C_READER, C_WRITER, FLOW_THROUGH, REGISTERED};
@@ -26,12 +27,17 @@ fn of<W: Write>(
     rule: u64,
 ) -> io::Result<()> {
     let mut buffer = [7u8; 20];
-    let b = build::build(writer, reader, bound, rule, &mut buffer);
-    let v = b.verdict;
-    show::verdict(out, name, b": accepted,", v)?;
+    let call = Call {
+        writer,
+        reader,
+        bound,
+        rule,
+    };
+    let b = build::build(&call, &mut buffer);
+    show::verdict(out, name, b": accepted,", b.verdict)?;
     let numbers = [b.kept, b.rounds];
     show::line(out, b" kept % rounds %, bytes", &numbers)?;
-    show::bytes(out, &buffer)?;
+    show::items(out, &buffer)?;
     show::text(out, b"\n")
 }
 

@@ -1,8 +1,10 @@
 // Why on pair A: a move for each reason, registered, and those that the rule decides under flow-through; a move with two faults; refusals.
+use crate::bridge::{A, Bridge};
 use calls::Explained;
+use rules::At;
 use std::io;
 use std::io::Write;
-use worked::{A_KEPT, A_READER, A_WRITER, FLOW_THROUGH, REGISTERED};
+use worked::FLOW_THROUGH;
 
 const ALL: [u8; 8] = [1, 1, 1, 1, 1, 1, 1, 1];
 
@@ -11,65 +13,54 @@ const START: [u8; 8] = [1, 0, 0, 0, 0, 0, 0, 0];
 const TWO: [u8; 8] = [1, 0, 0, 0, 0, 1, 1, 2];
 
 fn told<W: Write>(out: &mut W, name: &[u8], e: Explained) -> io::Result<()> {
-    let v = e.verdict;
-    show::verdict(out, name, b":", v)?;
-    let numbers = [e.reason as u64];
+    show::verdict(out, name, b":", e.verdict)?;
+    let numbers = [u64::from(e.reason)];
     show::line(out, b" reason %\n", &numbers)
 }
 
-// At bound 1, registered.
+// Why at a configuration, of the move x.y.
 fn at<W: Write>(
     out: &mut W,
     name: &[u8],
-    kept: [u8; 8],
+    b: Bridge,
     writer: u64,
     reader: u64,
     level: u64,
     x: u64,
     y: u64,
 ) -> io::Result<()> {
-    told(
-        out,
-        name,
-        why::why(
-            &A_WRITER, &A_READER, 1, REGISTERED, &kept, writer, reader, level, x, y,
-        ),
-    )
-}
-
-// In both start states.
-fn begun<W: Write>(
-    out: &mut W,
-    name: &[u8],
-    bound: u64,
-    rule: u64,
-    kept: [u8; 8],
-    level: u64,
-    x: u64,
-    y: u64,
-) -> io::Result<()> {
-    told(
-        out,
-        name,
-        why::why(&A_WRITER, &A_READER, bound, rule, &kept, 0, 0, level, x, y),
-    )
+    let at = At {
+        writer,
+        reader,
+        level,
+    };
+    told(out, name, why::why(&b.call(), b.kept, at, x, y))
 }
 
 fn cases<W: Write>(out: &mut W) -> io::Result<()> {
-    at(out, b"(0,0,0) 1.0", A_KEPT, 0, 0, 0, 1, 0)?;
-    at(out, b"(0,1,0) 0.0, not kept", A_KEPT, 0, 1, 0, 0, 0)?;
-    at(out, b"(1,0,1) 1.0, no writer row", A_KEPT, 1, 0, 1, 1, 0)?;
-    at(out, b"(1,1,0) 0.1, no reader row", A_KEPT, 1, 1, 0, 0, 1)?;
-    at(out, b"(1,1,0) 1.1, no row", A_KEPT, 1, 1, 0, 1, 1)?;
-    at(out, b"(0,0,0) 0.1, nothing held", A_KEPT, 0, 0, 0, 0, 1)?;
-    at(out, b"(0,0,1) 1.1, full", ALL, 0, 0, 1, 1, 1)?;
-    at(out, b"(0,0,0) 1.0, lands outside", START, 0, 0, 0, 1, 0)?;
-    begun(
+    at(out, b"(0,0,0) 1.0", A, 0, 0, 0, 1, 0)?;
+    at(out, b"(0,1,0) 0.0, not kept", A, 0, 1, 0, 0, 0)?;
+    at(out, b"(1,0,1) 1.0, no writer row", A, 1, 0, 1, 1, 0)?;
+    at(out, b"(1,1,0) 0.1, no reader row", A, 1, 1, 0, 0, 1)?;
+    at(out, b"(1,1,0) 1.1, no row", A, 1, 1, 0, 1, 1)?;
+    at(out, b"(0,0,0) 0.1, nothing held", A, 0, 0, 0, 0, 1)?;
+    at(out, b"(0,0,1) 1.1, full", A.with_kept(&ALL), 0, 0, 1, 1, 1)?;
+    at(
+        out,
+        b"(0,0,0) 1.0, lands outside",
+        A.with_kept(&START),
+        0,
+        0,
+        0,
+        1,
+        0,
+    )?;
+    at(
         out,
         b"(0,0,0) 1.1, two faults",
+        A.with_bound(0).with_kept(&START),
         0,
-        REGISTERED,
-        START,
+        0,
         0,
         1,
         1,
@@ -77,24 +68,42 @@ fn cases<W: Write>(out: &mut W) -> io::Result<()> {
 }
 
 fn through<W: Write>(out: &mut W) -> io::Result<()> {
-    begun(out, b"(0,0,1) 1.1, through", 1, FLOW_THROUGH, ALL, 1, 1, 1)?;
-    begun(out, b"(0,0,1) 1.0, full", 1, FLOW_THROUGH, ALL, 1, 1, 0)?;
-    begun(
+    at(
+        out,
+        b"(0,0,1) 1.1, through",
+        A.with_rule(FLOW_THROUGH).with_kept(&ALL),
+        0,
+        0,
+        1,
+        1,
+        1,
+    )?;
+    at(
+        out,
+        b"(0,0,1) 1.0, full",
+        A.with_rule(FLOW_THROUGH).with_kept(&ALL),
+        0,
+        0,
+        1,
+        1,
+        0,
+    )?;
+    at(
         out,
         b"(0,0,0) 0.1, nothing held",
-        1,
-        FLOW_THROUGH,
-        ALL,
+        A.with_rule(FLOW_THROUGH).with_kept(&ALL),
+        0,
+        0,
         0,
         0,
         1,
     )?;
-    begun(
+    at(
         out,
         b"(0,0,0) 1.1, lands outside",
+        A.with_bound(0).with_rule(FLOW_THROUGH).with_kept(&START),
         0,
-        FLOW_THROUGH,
-        START,
+        0,
         0,
         1,
         1,
@@ -102,22 +111,49 @@ fn through<W: Write>(out: &mut W) -> io::Result<()> {
 }
 
 fn refusals<W: Write>(out: &mut W) -> io::Result<()> {
-    begun(out, b"bound 16, rule 2", 16, 2, A_KEPT, 0, 0, 0)?;
-    begun(out, b"rule 2, 8 bytes for 12", 2, 2, A_KEPT, 0, 0, 0)?;
-    begun(
+    at(
+        out,
+        b"bound 16, rule 2",
+        A.with_bound(16).with_rule(2),
+        0,
+        0,
+        0,
+        0,
+        0,
+    )?;
+    at(
+        out,
+        b"rule 2, 8 bytes for 12",
+        A.with_bound(2).with_rule(2),
+        0,
+        0,
+        0,
+        0,
+        0,
+    )?;
+    at(
         out,
         b"8 bytes for 12, level 9",
-        2,
-        REGISTERED,
-        A_KEPT,
+        A.with_bound(2),
+        0,
+        0,
         9,
         0,
         0,
     )?;
-    at(out, b"a byte of 2, state 2", TWO, 2, 0, 0, 0, 0)?;
-    at(out, b"state 2, letter 2", A_KEPT, 2, 0, 0, 2, 0)?;
-    at(out, b"not kept, letters 2 and 2", A_KEPT, 0, 1, 0, 2, 2)?;
-    at(out, b"the reader's letter 256", A_KEPT, 0, 0, 0, 0, 256)
+    at(
+        out,
+        b"a byte of 2, state 2",
+        A.with_kept(&TWO),
+        2,
+        0,
+        0,
+        0,
+        0,
+    )?;
+    at(out, b"state 2, letter 2", A, 2, 0, 0, 2, 0)?;
+    at(out, b"not kept, letters 2 and 2", A, 0, 1, 0, 2, 2)?;
+    at(out, b"the reader's letter 256", A, 0, 0, 0, 0, 256)
 }
 
 pub fn run<W: Write>(out: &mut W) -> io::Result<()> {

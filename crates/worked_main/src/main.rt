@@ -3,6 +3,7 @@
 #![tactic(auto)]
 
 mod asking;
+mod bridge;
 mod building;
 mod explaining;
 mod reading;

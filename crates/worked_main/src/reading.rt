@@ -1,5 +1,5 @@
 // Tables at the limits of the format, and one damaged table for each refusal 1 to 8.
-ghost use Rattle.std.specs.Prelude.{◌≤◌, ◌<◌};
+ghost use Rattle.std.specs.Prelude.{◌+◌, ◌*◌, ◌≤◌, ◌<◌, length};
 
 use format::{Side, Table};
 use std::io;
@@ -25,19 +25,20 @@ const EQUAL_ROWS: [u8; 24] = [
 fn show_table<W: Write>(out: &mut W, t: Table) -> io::Result<()> {
     let last = t.rows[63];
     let numbers = [
-        t.version as u64,
-        t.role as u64,
-        t.states as u64,
-        t.start as u64,
-        t.finish as u64,
-        t.letters as u64,
-        t.count as u64,
-        last.state as u64,
-        last.drive as u64,
-        last.answer as u64,
-        last.item as u64,
-        last.next as u64,
-    ];
+        t.version,
+        t.role,
+        t.states,
+        t.start,
+        t.finish,
+        t.letters,
+        t.count,
+        last.state,
+        last.drive,
+        last.answer,
+        last.item,
+        last.next,
+    ]
+    .map(u64::from);
     show::line(
         out,
         b" version % role % states % start % finish % letters % rows % row 63: state % drive % answer % item % next %\n",
@@ -47,74 +48,43 @@ fn show_table<W: Write>(out: &mut W, t: Table) -> io::Result<()> {
 
 fn of<W: Write>(out: &mut W, name: &[u8], bytes: &[u8], side: Side) -> io::Result<()> {
     let r = tables::read(bytes, side);
-    let v = r.verdict;
-    let t = r.table;
-    show::verdict(out, name, b": fine,", v)?;
-    show_table(out, t)
+    show::verdict(out, name, b": fine,", r.verdict)?;
+    show_table(out, r.table)
 }
 
-fn of_writer<W: Write>(out: &mut W, name: &[u8], bytes: &[u8]) -> io::Result<()> {
-    of(out, name, bytes, Side::Writer)
-}
-
-fn of_reader<W: Write>(out: &mut W, name: &[u8], bytes: &[u8]) -> io::Result<()> {
-    of(out, name, bytes, Side::Reader)
-}
-
-// The header of a table with n rows and its true length: 16 states, 8 letters.
-fn header(n: usize) -> [u8; 334]
-    requires { n ≤ 65 }
+// Row i, for state i / 8 and letter i % 8.
+fn put_row(b: &mut [u8], i: u8)
+    requires { 14 + 5 * i ≤ length b.old }
 {
-    let mut b = [0u8; 334];
-    let length = 6 + 5 * n;
+    let at = 9 + 5 * usize::from(i);
+    b[at..at + 5].copy_from_slice(&[i / 8, i % 8, 15, 1, 15]);
+}
+
+// A table of n rows in N bytes, with its true length: 16 states, 8 letters.
+fn dense<const N: usize>(n: u8) -> [u8; N]
+    requires { 9 + 5 * n ≤ N }
+{
+    let mut b = [0; N];
+    let [high, low] = (6 + 5 * u16::from(n)).to_be_bytes();
     b[0] = 1;
-    b[1] = (length / 256 % 256) as u8;
-    b[2] = (length % 256) as u8;
+    b[1] = high;
+    b[2] = low;
     b[3] = 2;
     b[4] = 16;
     b[6] = 15;
     b[7] = 8;
-    b[8] = (n % 256) as u8;
-    b
-}
-
-// Row i, for state i / 8 and letter i % 8.
-fn put_row(b: &mut [u8; 334], i: usize)
-    requires { i < 65 }
-{
-    let at = 9 + 5 * i;
-    b[at] = (i / 8 % 256) as u8;
-    b[at + 1] = (i % 8) as u8;
-    b[at + 2] = 15;
-    b[at + 3] = 1;
-    b[at + 4] = 15;
-}
-
-fn dense(n: usize) -> [u8; 334]
-    requires { n ≤ 65 }
-{
-    let mut b = header(n);
+    b[8] = n;
     for i in 0..n {
         put_row(&mut b, i);
     }
     b
 }
 
-// The first n of the bytes.
-fn show_first<W: Write>(out: &mut W, name: &[u8], b: &[u8], n: usize) -> io::Result<()> {
-    if n <= b.len() {
-        of_reader(out, name, &b[..n])?;
-    }
-    Ok(())
-}
-
 fn limits<W: Write>(out: &mut W) -> io::Result<()> {
-    of_writer(out, b"9 bytes", &SHORTEST)?;
-    of_writer(out, b"pair A", &A_WRITER)?;
-    let most = dense(64);
-    show_first(out, b"329 bytes, 64 rows", &most, 329)?;
-    let over = dense(65);
-    show_first(out, b"334 bytes, 65 rows", &over, 334)
+    of(out, b"9 bytes", &SHORTEST, Side::Writer)?;
+    of(out, b"pair A", &A_WRITER, Side::Writer)?;
+    of(out, b"329 bytes, 64 rows", &dense::<329>(64), Side::Reader)?;
+    of(out, b"334 bytes, 65 rows", &dense::<334>(65), Side::Reader)
 }
 
 // The shortest table with one byte changed.
@@ -123,21 +93,21 @@ fn changed<W: Write>(out: &mut W, name: &[u8], at: usize, value: u8) -> io::Resu
 {
     let mut t = SHORTEST;
     t[at] = value;
-    of_writer(out, name, &t)
+    of(out, name, &t, Side::Writer)
 }
 
 fn damaged<W: Write>(out: &mut W) -> io::Result<()> {
-    of_reader(out, b"no bytes", b"")?;
-    of_writer(out, b"8 bytes", &EIGHT_BYTES)?;
+    of(out, b"no bytes", b"", Side::Reader)?;
+    of(out, b"8 bytes", &EIGHT_BYTES, Side::Writer)?;
     changed(out, b"version 2", 0, 2)?;
     changed(out, b"length untrue", 2, 7)?;
     changed(out, b"length of other rows", 8, 1)?;
-    of_reader(out, b"role of the writer", &A_WRITER)?;
+    of(out, b"role of the writer", &A_WRITER, Side::Reader)?;
     changed(out, b"no states", 4, 0)?;
     changed(out, b"9 letters", 7, 9)?;
     changed(out, b"finish outside", 6, 1)?;
-    of_writer(out, b"two items", &TWO_ITEMS)?;
-    of_writer(out, b"equal rows", &EQUAL_ROWS)
+    of(out, b"two items", &TWO_ITEMS, Side::Writer)?;
+    of(out, b"equal rows", &EQUAL_ROWS, Side::Writer)
 }
 
 pub fn run<W: Write>(out: &mut W) -> io::Result<()> {

@@ -1,4 +1,7 @@
 // Lines of the listing, and how inputs of several lengths are cut.
+ghost use Rattle.std.specs.Prelude.{ℕ, ◌≤◌};
+ghost use Rattle.std.specs.Fn.{FnOnceReturnsAtMut};
+
 use std::io;
 use std::io::Write;
 
@@ -8,35 +11,14 @@ const PAIR_A: [u8; 50] = [
     2, 3, 0, 0, 0, 0, 0, 0, 1, 1, 1, 1, 1, 0, 0, 0, 1, 1, 0,
 ];
 
-fn first<W: Write>(
-    out: &mut W,
-    kept: u64,
-    of: u64,
-    rounds: u64,
-    bound: u64,
-    rule: u64,
-) -> io::Result<()> {
-    let mut line = [0u8; 512];
-    let n = lines::first_line(&mut line, kept, of, rounds, bound, rule);
-    show::text(out, &line[..n])
-}
-
-fn conf<W: Write>(
-    out: &mut W,
-    writer_state: u64,
-    reader_state: u64,
-    level: u64,
-    set: u64,
-) -> io::Result<()> {
-    let mut line = [0u8; 512];
-    let n = lines::conf_line(&mut line, writer_state, reader_state, level, set);
-    show::text(out, &line[..n])
-}
-
-fn refusal<W: Write>(out: &mut W, number: u64, side: u64, row: u64) -> io::Result<()> {
-    let mut line = [0u8; 512];
-    let n = lines::refusal_line(&mut line, number, side, row);
-    show::text(out, &line[..n])
+// A line of the listing, which `write` puts at the start of a buffer; it gives the line's length.
+fn line<W: Write, F: FnOnce(&mut [u8; 512]) -> usize>(out: &mut W, write: F) -> io::Result<()>
+    requires callable { F.IsAlwaysCallable write }
+    requires inside { (old : _) (n : ℕ) (new : _) → FnOnceReturnsAtMut F.FnOnce write old n new → n ≤ 512 }
+{
+    let mut buffer = [0u8; 512];
+    let n = write(&mut buffer);
+    show::text(out, &buffer[..n])
 }
 
 fn cut<W: Write>(out: &mut W, input: &[u8]) -> io::Result<()> {
@@ -56,29 +38,22 @@ fn cut<W: Write>(out: &mut W, input: &[u8]) -> io::Result<()> {
 }
 
 fn listed<W: Write>(out: &mut W) -> io::Result<()> {
-    first(out, 3, 8, 2, 1, 0)?;
-    first(
+    line(out, |b| lines::first_line(b, 3, 8, 2, 1, 0))?;
+    line(
         out,
-        18446744073709551615,
-        18446744073709551615,
-        18446744073709551615,
-        18446744073709551615,
-        18446744073709551615,
+        |b| lines::first_line(b, u64::MAX, u64::MAX, u64::MAX, u64::MAX, u64::MAX),
     )?;
-    conf(out, 0, 0, 0, 257)?;
-    conf(out, 1, 0, 1, 3)?;
-    conf(out, 1, 1, 0, 1)?;
-    conf(out, 1, 0, 0, 0)?;
-    conf(out, 15, 9, 10, 18446744073709551615)?;
-    conf(
+    line(out, |b| lines::conf_line(b, 0, 0, 0, 257))?;
+    line(out, |b| lines::conf_line(b, 1, 0, 1, 3))?;
+    line(out, |b| lines::conf_line(b, 1, 1, 0, 1))?;
+    line(out, |b| lines::conf_line(b, 1, 0, 0, 0))?;
+    line(out, |b| lines::conf_line(b, 15, 9, 10, u64::MAX))?;
+    line(
         out,
-        18446744073709551615,
-        18446744073709551615,
-        18446744073709551615,
-        9223372036854775808,
+        |b| lines::conf_line(b, u64::MAX, u64::MAX, u64::MAX, 1 << 63),
     )?;
-    refusal(out, 11, 0, 0)?;
-    refusal(out, 7, 2, 63)
+    line(out, |b| lines::refusal_line(b, 11, 0, 0))?;
+    line(out, |b| lines::refusal_line(b, 7, 2, 63))
 }
 
 fn cuts<W: Write>(out: &mut W) -> io::Result<()> {

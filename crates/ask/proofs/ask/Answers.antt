@@ -1,14 +1,13 @@
--- `ask::ask` meets its contract: the entry checks, then the rest. Assumes nothing.
+-- `ask::ask` meets its contract: by what is allowed, or by the refusal. Assumes nothing.
 use mathlib.Core.Path.{◌∙◌}
-use Rattle.entry.proofs.Entering.{entry_known}
-use Rattle.ask.proofs.Answers.{ask_refused, ask_goes_on}
+use Rattle.format.proofs.Verdicts.{returned_done, returned_refused}
+use Rattle.calls.specs.Ask.{answered, unanswered, ask_of}
 use Rattle.ask.proofs.ask.Goals as goal
 
-pub returns-in_default : goal.returns-in_default
-returns-in_default c = c.refused.ensures ∙ ask_refused _ _ _ c.enter-e.ensures c.in_default.is
+pub returns-in-Ok : goal.returns-in-Ok
+unfolding ask_of
+returns-in-Ok c = c.answer.ensures ∙ returned_done _ _ c.allowed.ensures unanswered answered c.in-Ok.is
 
-pub ask_pair-requires : goal.ask_pair-requires
-ask_pair-requires c = entry_known c.enter-e.ensures c.in-Fine.is
-
-pub returns : goal.returns
-returns c = c.ask_pair.ensures ∙ ask_goes_on _ _ _ c.enter-e.ensures c.in-Fine.is
+pub returns-in-Err : goal.returns-in-Err
+unfolding ask_of
+returns-in-Err c = c.refused.ensures ∙ returned_refused _ _ c.allowed.ensures unanswered answered c.in-Err.is

@@ -11,4 +11,4 @@ pack_verdict-requires c =
     (omega (arith, few.0), omega (arith, few.1))
 
 pub returns : goal.returns
-returns c = c.pack_verdict.ensures ∙ ap packed_asked c.ask-a.ensures
+returns c = (rw (c.from.ensures, c.from-2.ensures) at c.pack_verdict.ensures) ∙ ap packed_asked c.ask-a.ensures

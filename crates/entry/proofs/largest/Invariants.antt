@@ -1,10 +1,6 @@
--- `entry::largest` meets its contract: after p bytes, the largest of those. Assumes nothing.
-use Prim.Native.Nat.{◌-◌, ◌≤◌}
+-- `entry::largest` meets its contract: of the bytes so far, the largest. Assumes nothing.
 use Rattle.entry.specs.Largest.{Largest}
 use Rattle.entry.proofs.largest.Given as goal
 
-abbrev pub invariant-loop-p : goal.invariant-loop-p
-invariant-loop-p l = (l.p ≤ l.n) × Largest l.bytes l.p l.most
-
-abbrev pub decreases-loop-p : goal.decreases-loop-p
-decreases-loop-p l = l.n - l.p
+abbrev pub invariant-loop-byte : goal.invariant-loop-byte
+invariant-loop-byte l = Largest l.bytes l.byte-index l.most

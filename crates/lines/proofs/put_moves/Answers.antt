@@ -8,18 +8,15 @@ use Rattle.lines.proofs.put_moves.Goals as goal
 pub loop-m-preserved : goal.loop-m-preserved
 loop-m-preserved c =
     let v = c.loop-m.invariant in
-    (omega arith, c.put_bit-next.auto.out ∙ v.1, moves_next _ _ v.2 c.put_bit-next.ensures)
-
-pub shape_of-out : goal.shape_of-out
-shape_of-out c = c.loop-m.invariant.1
+    (c.put_bit-next.auto.out ∙ v.0, moves_next _ _ v.1 c.put_bit-next.ensures)
 
 pub returns : goal.returns
 returns c =
-    let all = moves_end _ _ c.loop-m.invariant.0 c.loop-m-test.false c.loop-m.invariant.2 in
+    let all = moves_end _ _ c.loop-m.auto.m-end c.loop-m-test.false c.loop-m.invariant.1 in
     record { put = all.0; upper_bound = all.1 }
 
 pub loop-m-init : goal.loop-m-init
-loop-m-init c = (omega arith, refl, moves_start _ _ _)
+loop-m-init c = (refl, moves_start _ _ _)
 
 pub put_bit-next-requires : goal.put_bit-next-requires
-put_bit-next-requires c = omega (arith, c.loop-m.invariant.2.next, moves_length c.args.set c.loop-m.m)
+put_bit-next-requires c = omega (arith, c.loop-m.invariant.1.next, moves_length c.args.set c.loop-m.m)

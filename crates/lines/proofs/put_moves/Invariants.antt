@@ -1,5 +1,4 @@
 -- `lines::put_moves` meets its contract: with m bits looked at, the moves of the bits below m stand there. Assumes nothing.
-use Prim.Native.Nat.{◌-◌, ◌≤◌}
 use mathlib.Core.Path.{◌≡◌}
 use lib.ListN.{length}
 use Rattle.texts.specs.Text.{moves_below}
@@ -8,7 +7,4 @@ use Rattle.lines.proofs.put_moves.Given as goal
 
 abbrev pub invariant-loop-m : goal.invariant-loop-m
 invariant-loop-m l =
-    (l.m ≤ 64) × (length l.out ≡ length l.initial.out) × Put (moves_below l.set l.m) l.at l.initial.out l.next l.out
-
-abbrev pub decreases-loop-m : goal.decreases-loop-m
-decreases-loop-m l = 64 - l.m
+    (length l.out ≡ length l.initial.out) × Put (moves_below l.set l.m) l.at l.initial.out l.next l.out

@@ -7,17 +7,11 @@ use mathlib.Core.Path.{sym, ◌≡◌}
 use Rattle.texts.proofs.Cuts.{no_field, a_field}
 use Rattle.lines.proofs.table_bytes.Goals as goal
 
-pub returns-then-bytes-lt3 : goal.returns-then-bytes-lt3
-returns-then-bytes-lt3 c = sym (no_field _ c.if-bytes-lt3.true)
-
-pub returns-then-bytes-end : goal.returns-then-bytes-end
-returns-then-bytes-end c =
-    let by_field : let bs = c.args.bytes.now in table_bytes bs ≡ min (3 + length_field bs) (length bs) =
-    a_field _ c.if-bytes-lt3.false in
-    omega (arith, by_field)
+pub returns-in_default : goal.returns-in_default
+returns-in_default c = sym (no_field _ (omega (arith, c.in_default.len_below)))
 
 pub returns : goal.returns
 returns c =
     let by_field : let bs = c.args.bytes.now in table_bytes bs ≡ min (3 + length_field bs) (length bs) =
-    a_field _ c.if-bytes-lt3.false in
+    a_field _ (omega (arith, c.in-len3-up.len_at_least)) in
     omega (arith, by_field)

@@ -8,16 +8,16 @@ use Rattle.listing.proofs.list_input.Goals as goal
 ordered : (bs : List ℕ) (cut : Cut) → cut ≡ cut_of bs → InOrder bs cut
 ordered bs cut e = subst (λ (z : Cut). InOrder bs z) (sym e) (in_order bs)
 
-pub slice_bounds-list-end : goal.slice_bounds-list-end
-slice_bounds-list-end g c =
+pub slice_bounds-call-end : goal.slice_bounds-call-end
+slice_bounds-call-end g c =
     let cut = ordered _ _ c.cut_input-cut.ensures in
     sym (length-take-le _ _ (omega (arith, cut.low, cut.high)))
 
-pub slice_bounds-list-count : goal.slice_bounds-list-count
-slice_bounds-list-count g c = (ordered _ _ c.cut_input-cut.ensures).low
+pub slice_bounds-call-count : goal.slice_bounds-call-count
+slice_bounds-call-count g c = (ordered _ _ c.cut_input-cut.ensures).low
 
-pub slice_bounds-list-start : goal.slice_bounds-list-start
-slice_bounds-list-start g c = (ordered _ _ c.cut_input-cut.ensures).low
+pub slice_bounds-call-start : goal.slice_bounds-call-start
+slice_bounds-call-start g c = (ordered _ _ c.cut_input-cut.ensures).low
 
-pub slice_bounds-list-end-2 : goal.slice_bounds-list-end-2
-slice_bounds-list-end-2 g c = (ordered _ _ c.cut_input-cut.ensures).high
+pub slice_bounds-call-end-2 : goal.slice_bounds-call-end-2
+slice_bounds-call-end-2 g c = (ordered _ _ c.cut_input-cut.ensures).high

@@ -1,18 +1,19 @@
 -- `pages::all_places` meets its contract. Assumes nothing.
 use native.Mathlib.Omega.{arith}
-use Rattle.rules.specs.declared.Pair.{Pair}
-use Rattle.calls.specs.Call.{Call, call_of}
-use Rattle.calls.proofs.Silent.{enter_bound}
-use mathlib.Core.Path.{ap, ◌∙◌}
+use mathlib.Core.Path.{sym, ap, ◌∙◌}
 use Rattle.rules.specs.Configurations.{size}
+use Rattle.calls.specs.Call.{pair_of}
+use Rattle.format.proofs.Verdicts.{refused_not_fine, known_refused}
 use Rattle.outcomes.proofs.Framed.{framed_size}
+use Rattle.entry.proofs.Entering.{entry_is, entry_known}
 use Rattle.pages.proofs.all_places.Goals as goal
 
-pub returns : goal.returns
-returns c = framed_size c.enter-e.result.pair c.frame_of-f.ensures c.places.ensures ∙ ap size c.enter-e.ensures.pair_is
-
 pub frame_of-f-requires : goal.frame_of-f-requires
-frame_of-f-requires c =
-    let call : Call =
-    let a = c.args in call_of a.writer.now a.reader.now a.bound a.rule in
-    omega (arith, enter_bound (call) c.requires, ap (λ (X : Pair). X.bound) c.enter-e.ensures.pair_is)
+frame_of-f-requires c = omega (arith, (entry_known c.args.call.now (sym c.enter.ensures ∙ c.in-Ok.is)).few)
+
+pub returns-in-Ok : goal.returns-in-Ok
+returns-in-Ok c =
+    framed_size c.in-Ok.p c.frame_of-f.ensures c.places.ensures ∙ ap size (sym (entry_is c.args.call.now (sym c.enter.ensures ∙ c.in-Ok.is)))
+
+pub returns-in-Err : goal.returns-in-Err
+returns-in-Err c = absurd (refused_not_fine (sym (known_refused _ (pair_of c.args.call.now) c.enter.ensures c.in-Err.is) ∙ c.requires))

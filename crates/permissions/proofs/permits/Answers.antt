@@ -11,5 +11,5 @@ pub returns : goal.returns
 unfolding has_bit
 returns c =
     let a = c.args in
-    ap (λ (k : ℕ). has_bit (byte a.list.now (3 + 8 * a.p + 7 - k)) (a.m % 8)) c.wide.ensures.0
-    ∙ set_bit a.list.now (λ i. omega (arith, c.shared_slice_known-2-1.given i)) a.p a.m c.requires.2
+    ap (λ (k : ℕ). has_bit (byte a.list.now (3 + 8 * a.p + 7 - k)) (a.m % 8)) c.from.ensures
+    ∙ set_bit a.list.now (λ i. omega (arith, c.type_inv.list i)) a.p a.m c.requires.2

@@ -1,35 +1,9 @@
 -- `reasons::allowed_at` meets its contract. Assumes nothing.
-use native.Mathlib.Omega.{arith}
-use mathlib.Core.Path.{◌≡◌, sym, ◌∙◌}
-use Rattle.numbers.specs.Frames.{frame_of, place_of}
-use Rattle.outcomes.specs.Outcomes.{kept_on}
-use Rattle.outcomes.proofs.Sides.{place_lent, out_reason}
-use Rattle.outcomes.proofs.Framed.{framed_kept}
-use Rattle.reasons.specs.Reasoning.{KeptOf}
 use Rattle.reasons.proofs.Sets.{set_looked, set_out}
 use Rattle.reasons.proofs.allowed_at.Goals as goal
 
-pub is_kept-requires : goal.is_kept-requires
-is_kept-requires c = rw c.frame_of-f.ensures (place_lent _ _ _ c.requires)
+pub returns-in-Some : goal.returns-in-Some
+returns-in-Some c = let a = c.args in set_looked a.p a.k.now a.c c.in-Some.ensures
 
-pub returns-then-not-is_kept : goal.returns-then-not-is_kept
-returns-then-not-is_kept c =
-    let kept_is : let a = c.args in c.is_kept.result ≡ kept_on a.k.now (place_of (frame_of a.p) a.c) =
-    let a = c.args in
-    framed_kept a.p c.frame_of-f.ensures a.k.now a.c c.is_kept.ensures in
-    let a = c.args in
-    set_out a.p a.k.now a.c (out_reason _ _ _ c.requires (kept_is) c.if-not-is_kept.true)
-
-pub look-requires : goal.look-requires
-look-requires c =
-    let kept_is : let a = c.args in c.is_kept.result ≡ kept_on a.k.now (place_of (frame_of a.p) a.c) =
-    let a = c.args in
-    framed_kept a.p c.frame_of-f.ensures a.k.now a.c c.is_kept.ensures in
-    let kept : let a = c.args in KeptOf a.p a.k.now a.c =
-    sym (kept_is) ∙ c.if-not-is_kept.false in
-    (c.requires, kept, omega arith)
-
-pub returns : goal.returns
-returns c =
-    let a = c.args in
-    set_looked a.p a.k.now a.c c.look.ensures
+pub returns-in-None : goal.returns-in-None
+returns-in-None c = let a = c.args in set_out a.p a.k.now a.c c.in-None.ensures

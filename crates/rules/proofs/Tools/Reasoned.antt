@@ -17,7 +17,10 @@ use Rattle.rules.specs.declared.Conf.{Conf}
 use Rattle.rules.specs.declared.Pair.{Pair}
 use Rattle.rules.specs.Configurations.{GoodPair, May, Outcome, after, Within, place}
 use Rattle.rules.specs.Sets.{AllowedIn}
-use Rattle.rules.specs.Reasons.{Reason, Allowed, reason_number, overflows, underflows, SomeOutcome, Applies, ReasonIs}
+use Rattle.rules.specs.Reasons.{overflows, underflows, SomeOutcome, Applies, ReasonIs}
+use Rattle.rules.specs.declared.Reason.{Reason}
+use Rattle.rules.specs.declared.Reason.TheVariants.{Allowed}
+use Rattle.rules.specs.Numbers.{reason_number}
 use Rattle.rules.specs.Kept.{KeptAt}
 use Rattle.rules.specs.Tools.Computed.{non_empty, rows_for, outcomes, some_outcome, reason_by, kept_test, reason_of, allowed_test}
 use Rattle.rules.proofs.Places.{after_within}

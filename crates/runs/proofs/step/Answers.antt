@@ -1,28 +1,14 @@
--- `runs::step` meets its contract: the entry checks, then 10, 12 and 13, then the cycle. Assumes nothing.
-use mathlib.Core.Path.{sym, ◌∙◌}
-use Rattle.calls.proofs.Silent.{open_known}
-use Rattle.entry.proofs.Entering.{entry_known}
-use Rattle.runs.proofs.Answers.{step_refused, open_refused, open_turns}
+-- `runs::step` meets its contract: by what the cycle does, or by the refusal. Assumes nothing.
+use mathlib.Core.Path.{◌∙◌}
+use Rattle.format.proofs.Verdicts.{returned_done, returned_refused}
+use Rattle.calls.specs.declared.Stepped.{Stepped}
+use Rattle.calls.specs.Step.{refused_step, step_of}
 use Rattle.runs.proofs.step.Goals as goal
 
-pub returns-in_default : goal.returns-in_default
-returns-in_default c = c.refused.ensures ∙ step_refused _ _ _ _ c.enter-e.ensures c.in_default.is
+pub returns-in-Ok : goal.returns-in-Ok
+unfolding step_of
+returns-in-Ok c = returned_done _ _ c.stepped.ensures (refused_step c.args.run) (λ (s : Stepped). s) c.in-Ok.is
 
-pub open-o-requires : goal.open-o-requires
-open-o-requires c = entry_known c.enter-e.ensures c.in-Fine.is
-
-pub returns-in_default-o : goal.returns-in_default-o
-returns-in_default-o c =
-    c.refused-in_default-o.ensures
-    ∙ open_refused _ _ _ _ c.enter-e.ensures c.in-Fine.is c.open-o.ensures c.in_default-o.is
-
-pub turn-requires : goal.turn-requires
-turn-requires c =
-    let a = c.args in
-    open_known c.enter-e.result.pair a.kept.now a.run (entry_known c.enter-e.ensures c.in-Fine.is)
-    (sym c.open-o.ensures ∙ c.in-Fine-o.is)
-
-pub returns : goal.returns
-returns c =
-    c.turn.ensures
-    ∙ open_turns _ _ _ _ c.enter-e.ensures c.in-Fine.is c.open-o.ensures c.in-Fine-o.is
+pub returns-in-Err : goal.returns-in-Err
+unfolding step_of
+returns-in-Err c = c.refused.ensures ∙ returned_refused _ _ c.stepped.ensures (refused_step c.args.run) (λ (s : Stepped). s) c.in-Err.is

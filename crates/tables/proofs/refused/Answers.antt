@@ -4,4 +4,4 @@ use Rattle.tables.proofs.refused.Goals as goal
 
 pub returns : goal.returns
 unfolding no_rows
-returns c = rw c.zero_row-rows.ensures
+returns c = rw c.zero_row.ensures

@@ -1,48 +1,40 @@
 -- `turns::turn` meets its contract: 14, 15, then the rest. Assumes nothing.
-use Prim.Native.Nat.{◌<◌}
 use native.Mathlib.Omega.{arith}
-use mathlib.Core.Path.{◌≡◌, sym, ap, ◌∙◌}
-use Rattle.format.specs.declared.Verdict.TheVariants.{Fine}
-use Rattle.format.specs.Verdicts.{verdict_of}
-use Rattle.calls.specs.Step.{refused_step}
-use Rattle.calls.specs.Refusals.{letter_checks}
+use mathlib.Core.Path.{sym, ◌∙◌}
+use Rattle.format.proofs.Verdicts.{handed_on}
 use Rattle.calls.proofs.Silent.{letters_known}
-use Rattle.turns.proofs.Turning.{turn_refused, not_allowed, allowed_on, answerable}
+use Rattle.turns.proofs.Turning.{letters_refused, move_refused, move_allowed, answerable}
 use Rattle.turns.proofs.turn.Goals as goal
 
-pub returns-in_default : goal.returns-in_default
-returns-in_default c =
+pub returns-in_err-check_letters : goal.returns-in_err-check_letters
+returns-in_err-check_letters c =
     let a = c.args in
-    c.refused.ensures ∙ turn_refused a.p a.kept.now a.run a.cycle c.check_letters-v.ensures c.in_default.is
+    handed_on _ c.from_residual.ensures
+    ∙ letters_refused a.p a.kept.now a.run a.cycle (sym c.check_letters.ensures ∙ c.in_err-check_letters.was)
 
 pub reason_at-reason-requires : goal.reason_at-reason-requires
 reason_at-reason-requires c =
-    let fine : let a = c.args in verdict_of (letter_checks a.p a.cycle.writer_letter a.cycle.reader_letter) ≡ Fine =
-    sym c.check_letters-v.ensures ∙ c.in-Fine.is in
-    let letters : let a = c.args in (a.cycle.writer_letter < a.p.writer.letters) × (a.cycle.reader_letter < a.p.reader.letters) =
-    let a = c.args in letters_known a.p a.cycle.writer_letter a.cycle.reader_letter (fine) in
+    let a = c.args in
+    let l = letters_known a.p a.cycle.writer_letter a.cycle.reader_letter (sym c.check_letters.ensures ∙ c.in_ok-check_letters.was) in
     let g = c.requires.good in
-    (c.requires, omega (arith, (letters).0, g.writer.letters), omega (arith, (letters).1, g.reader.letters))
+    (c.requires, omega (arith, l.0, g.writer.letters), omega (arith, l.1, g.reader.letters))
 
 pub by_answers-requires : goal.by_answers-requires
 by_answers-requires c =
-    let fine : let a = c.args in verdict_of (letter_checks a.p a.cycle.writer_letter a.cycle.reader_letter) ≡ Fine =
-    sym c.check_letters-v.ensures ∙ c.in-Fine.is in
     let a = c.args in
-    answerable a.p a.kept.now a.run a.cycle (fine) c.reason_at-reason.ensures c.requires c.if-reason-eq-ALLOWED.true
+    answerable a.p a.kept.now a.run a.cycle (sym c.check_letters.ensures ∙ c.in_ok-check_letters.was)
+    c.reason_at-reason.ensures c.is_allowed.ensures c.requires c.if-is_allowed.true
 
-pub returns-then-reason-eq-ALLOWED : goal.returns-then-reason-eq-ALLOWED
-returns-then-reason-eq-ALLOWED c =
-    let fine : let a = c.args in verdict_of (letter_checks a.p a.cycle.writer_letter a.cycle.reader_letter) ≡ Fine =
-    sym c.check_letters-v.ensures ∙ c.in-Fine.is in
+pub returns-then-is_allowed : goal.returns-then-is_allowed
+returns-then-is_allowed c =
     let a = c.args in
     c.by_answers.ensures
-    ∙ allowed_on a.p a.kept.now a.run a.cycle (fine) c.reason_at-reason.ensures c.if-reason-eq-ALLOWED.true
+    ∙ move_allowed a.p a.kept.now a.run a.cycle (sym c.check_letters.ensures ∙ c.in_ok-check_letters.was)
+    c.reason_at-reason.ensures c.is_allowed.ensures c.if-is_allowed.true
 
 pub returns : goal.returns
 returns c =
-    let fine : let a = c.args in verdict_of (letter_checks a.p a.cycle.writer_letter a.cycle.reader_letter) ≡ Fine =
-    sym c.check_letters-v.ensures ∙ c.in-Fine.is in
     let a = c.args in
-    c.refused-2.ensures ∙ ap (refused_step a.run) c.not_allowed.ensures
-    ∙ not_allowed a.p a.kept.now a.run a.cycle (fine) c.reason_at-reason.ensures c.if-reason-eq-ALLOWED.false
+    rw c.not_allowed.ensures
+    (move_refused a.p a.kept.now a.run a.cycle (sym c.check_letters.ensures ∙ c.in_ok-check_letters.was)
+    c.reason_at-reason.ensures c.is_allowed.ensures c.if-is_allowed.false)

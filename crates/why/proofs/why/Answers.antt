@@ -1,14 +1,13 @@
--- `why::why` meets its contract: the entry checks, then the rest. Assumes nothing.
+-- `why::why` meets its contract: by the reason, or by the refusal. Assumes nothing.
 use mathlib.Core.Path.{◌∙◌}
-use Rattle.entry.proofs.Entering.{entry_known}
-use Rattle.why.proofs.Explaining.{why_refused, why_goes_on}
+use Rattle.format.proofs.Verdicts.{returned_done, returned_refused}
+use Rattle.calls.specs.Why.{explained, unexplained, why_of}
 use Rattle.why.proofs.why.Goals as goal
 
-pub returns-in_default : goal.returns-in_default
-returns-in_default c = c.refused.ensures ∙ why_refused _ _ _ _ _ c.enter-e.ensures c.in_default.is
+pub returns-in-Ok : goal.returns-in-Ok
+unfolding why_of
+returns-in-Ok c = c.explain.ensures ∙ returned_done _ _ c.reason.ensures unexplained explained c.in-Ok.is
 
-pub why_pair-requires : goal.why_pair-requires
-why_pair-requires c = entry_known c.enter-e.ensures c.in-Fine.is
-
-pub returns : goal.returns
-returns c = c.why_pair.ensures ∙ why_goes_on _ _ _ _ _ c.enter-e.ensures c.in-Fine.is
+pub returns-in-Err : goal.returns-in-Err
+unfolding why_of
+returns-in-Err c = c.refused.ensures ∙ returned_refused _ _ c.reason.ensures unexplained explained c.in-Err.is

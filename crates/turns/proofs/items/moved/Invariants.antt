@@ -1,5 +1,4 @@
 -- `turns::items::moved` meets its contract: with i places filled in, the rest is still zero. Assumes nothing.
-use Prim.Native.Nat.{◌-◌, ◌≤◌}
 use mathlib.Core.Path.{◌≡◌}
 use mathlib.Core.List.{◌++◌}
 use lib.ListN.{length, drop, replicate}
@@ -9,7 +8,4 @@ use Rattle.turns.proofs.items.moved.Given as goal
 
 abbrev pub invariant-loop-i : goal.invariant-loop-i
 invariant-loop-i l =
-    (l.i ≤ l.n) × (length l.left ≡ 16) × (l.left ≡ tab (left_at l.items l.level l.incoming l.taken) l.i ++ drop l.i (replicate 16 0))
-
-abbrev pub decreases-loop-i : goal.decreases-loop-i
-decreases-loop-i l = l.n - l.i
+    (length l.left ≡ 16) × (l.left ≡ tab (left_at l.items l.level l.incoming l.taken) l.i ++ drop l.i (replicate 16 0))

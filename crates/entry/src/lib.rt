@@ -12,7 +12,8 @@ use format::{Fault, Refusal, Side, Verdict};
 use rules::{Pair, Rule};
 use tables::read;
 
-// Both tables, then 9, then 17.
+// Both tables, then 9, then 17. Inlined, for a result of this size is copied where it is returned.
+#[inline]
 pub fn enter(call: &Call) -> Result<Pair, Refusal>
     ensures { result ≡ unless (verdict_of (enter_checks call.now)) (pair_of call.now) }
 {

@@ -18,7 +18,7 @@ use Rattle.calls.specs.Check.{Judged, judges_checks, check_checks, CheckSays}
 use Rattle.calls.proofs.Silent.{enter_good}
 use Rattle.std.specs.Prelude.{None, Ok, Err}
 use Rattle.format.specs.declared.Fault.TheVariants.{BadMovePermitted, NoWayToFinish}
-use Rattle.format.specs.declared.Refusal.{Refusal}
+use Rattle.format.specs.Verdicts.{Refusal}
 
 -- ---- which verdict a list has, past 18
 

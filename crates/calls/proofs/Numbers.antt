@@ -76,21 +76,24 @@ side_small Reader = omega arith
 -- ---- refusals 1 to 8
 
 module _ (bs : List ℕ) (side : Side) where
+  abbrev headers : List Check
+  headers = header_checks bs (side_number side) side
+
   named : side_number side < 2 ^ 8
   named = side_small side
 
-  header_small : Small (verdict_of (header_checks bs side))
+  header_small : Small (verdict_of headers)
   unfolding header_checks
   header_small =
-      lines_small (header_checks bs side) (
+      lines_small headers (
         line (omega arith) named,
         (line (omega arith) named, (line (omega arith) named, (line (omega arith) named, (line (omega arith) named, (line (omega arith) named, tt))))),
       )
 
   -- past 5 there are at most 64 rows
-  rows_few : verdict_of (header_checks bs side) ≡ Fine → rows_in bs ≤ 64
+  rows_few : verdict_of headers ≡ Fine → rows_in bs ≤ 64
   unfolding header_checks
-  rows_few e = (range_of bs (fine_silent (header_checks bs side) e).1.1.1.1.0).4
+  rows_few e = (range_of bs (fine_silent headers e).1.1.1.1.0).4
 
   rows_small : rows_in bs ≤ 64 → Small (verdict_of (row_checks bs side))
   unfolding row_checks
@@ -101,7 +104,7 @@ module _ (bs : List ℕ) (side : Side) where
       )
 
   checks_small : Small (verdict_of (checks bs side))
-  checks_small = joined_small (header_checks bs side) (row_checks bs side) header_small (λ e. rows_small (rows_few e))
+  checks_small = joined_small headers (row_checks bs side) header_small (λ e. rows_small (rows_few e))
 
 -- ---- the calls
 

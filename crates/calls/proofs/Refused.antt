@@ -25,7 +25,7 @@ use Rattle.calls.proofs.Queues.{padded_none}
 use Rattle.calls.proofs.Accepted.{step_verdict}
 use Rattle.std.specs.Prelude.{None, Err}
 use Rattle.format.specs.declared.Fault.TheVariants.{NotAllowed}
-use Rattle.format.specs.declared.Refusal.{Refusal}
+use Rattle.format.specs.Verdicts.{Refusal}
 
 -- ---- "or refuses (1 to 9) with all zero in the run beside the refusal's number, side and row"
 

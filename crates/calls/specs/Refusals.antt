@@ -5,10 +5,9 @@
 -- Assumes nothing.
 use Rattle.std.specs.Prelude.{ℕ, Bool, not, ◌&&◌, List, [], ◌∷◌, ◌++◌, length, ltb, leb, None, Some}
 use Rattle.lists.specs.Search.{some}
-use Rattle.format.specs.declared.Side.{Side}
 use Rattle.format.specs.declared.Side.TheVariants.{Writer, Reader}
 use Rattle.format.specs.declared.Table.{Table}
-use Rattle.format.specs.Verdicts.{Check, when}
+use Rattle.format.specs.Verdicts.{Check, CheckOf, when}
 use Rattle.format.specs.Format.{byte}
 use Rattle.format.specs.Reads.{checks}
 use Rattle.rules.specs.declared.Conf.{Conf}
@@ -55,7 +54,7 @@ abbrev pub conf_check : Pair → Conf → Check
 conf_check X c = when NoConfiguration None 0 (not (in_range X c))
 
 -- letter not below d (why, step): "In 14 and 16 the writer comes first"
-abbrev pub letter_check : Table → Side → ℕ → Check
+abbrev pub letter_check : {S : Type 0} → Table → S → ℕ → CheckOf S
 letter_check t side letter = when NoLetter (Some side) 0 (leb t.letters letter)
 
 abbrev pub letter_checks : Pair → ℕ → ℕ → List Check

@@ -5,10 +5,8 @@ use Rattle.std.specs.Prelude.{ℕ, ◌≡◌, Bool, not, ◌||◌, List, [], ◌
 use Rattle.lists.specs.Search.{seek, some}
 use Rattle.format.specs.declared.Row.{Row}
 use Rattle.format.specs.declared.Table.{Table}
-use Rattle.format.specs.declared.Side.{Side}
 use Rattle.format.specs.declared.Side.TheVariants.{Writer, Reader}
-use Rattle.format.specs.declared.Refusal.{Refusal}
-use Rattle.format.specs.Verdicts.{Fine, Check, when, verdict_of, given}
+use Rattle.format.specs.Verdicts.{Refusal, Fine, Check, CheckOf, when, verdict_of, given}
 use Rattle.format.specs.Reads.{read_of}
 use Rattle.format.specs.Good.{row}
 use Rattle.rules.specs.declared.Pair.{Pair}
@@ -56,7 +54,7 @@ move_check X bytes u c =
     when NotAllowed None (reason_number (reason_of X bytes (conf_of u) x y)) (not (allowed_test X bytes (conf_of u) x y))
 
 -- no row for that state, letter and answer
-abbrev pub row_check : Table → Side → ℕ → Check
+abbrev pub row_check : {S : Type 0} → Table → S → ℕ → CheckOf S
 row_check t side found = when NoRow (Some side) 0 (leb t.count found)
 
 -- of the call, past 9 and 17: 10, 12, 13
@@ -95,6 +93,11 @@ done_of X u c = done_by u (row X.writer (writer_found X u c)) (row X.reader (rea
 -- "A refused step returns the run given, item 0, mark 0"
 abbrev pub refused_step : Run → Refusal → Stepped
 refused_step u refusal = record { verdict = Err refusal; run = u; item = 0; mark = 0 }
+
+-- what a cycle does, past the call's own checks
+unfoldable pub turn_of : Pair → List ℕ → Run → Cycle → Stepped
+unfolding seek reason_of allowed_test done_by
+turn_of X bytes u c = given (verdict_of (turn_checks X bytes u c)) (refused_step u) (done_of X u c)
 
 unfoldable pub step_of : Call → List ℕ → Run → Cycle → Stepped
 unfolding read_of seek reason_of allowed_test done_by

@@ -3,7 +3,7 @@
 -- `reason_of` is the reason that computes; that it is the one of the rules (`ReasonIs`) is proved: why_reason in proofs/WhySays.antt.
 -- Assumes nothing.
 use Rattle.std.specs.Prelude.{ℕ, List, ◌++◌, Err}
-use Rattle.format.specs.declared.Refusal.{Refusal}
+use Rattle.format.specs.Verdicts.{Refusal}
 use Rattle.format.specs.Verdicts.{Fine, Check, verdict_of, given}
 use Rattle.rules.specs.declared.Conf.{Conf}
 use Rattle.rules.specs.declared.Pair.{Pair}

@@ -18,7 +18,7 @@ use Rattle.calls.proofs.Codes.{checks_numbered}
 use Rattle.calls.proofs.Largest.{answer_largest, build_cases, build_enters}
 use Rattle.std.specs.Prelude.{None, Err}
 use Rattle.format.specs.declared.Fault.TheVariants.{StartDropped}
-use Rattle.format.specs.declared.Refusal.{Refusal}
+use Rattle.format.specs.Verdicts.{Refusal}
 
 module _ (k : Call) (before : List ℕ) where
   abbrev X : Pair

@@ -6,7 +6,7 @@ use mathlib.Core.List.{List, [], ◌∷◌, ◌++◌, append_assoc}
 use borrow.Author.Tests.{lt-ltb, le-ltb}
 use Rattle.std.specs.Prelude.{Ok, Err}
 use Rattle.format.specs.declared.Reading.{Reading}
-use Rattle.format.specs.declared.Refusal.{Refusal}
+use Rattle.format.specs.Verdicts.{Refusal}
 use Rattle.format.specs.declared.Fault.TheVariants.{BoundTooLarge, UnknownRule}
 use Rattle.format.specs.declared.Side.TheVariants.{Writer, Reader}
 use Rattle.format.specs.Verdicts.{Fine, unsided, Check, verdict_of, and_then, given, unless}
@@ -21,6 +21,8 @@ use Rattle.calls.specs.Call.{Call, rule_of, pair_of}
 use Rattle.calls.specs.Refusals.{bound_check, rule_check, enter_checks}
 use Rattle.calls.specs.Past.{Entered}
 use Rattle.calls.proofs.Silent.{enter_known}
+use Rattle.entry.specs.declared.Entry.{Entry}
+use Rattle.entry.specs.Enter.{Enters}
 
 rule_few : (rule : Rule) {n : ℕ} → rule_number rule ≡ n → n ≤ 1
 rule_few Registered e = omega arith
@@ -61,9 +63,9 @@ module _ (k : Call) {w r : Reading} (is_w : w ≡ read_of k.writer Writer) (is_r
         pub rule_refused : 1 < k.rule → Err (unsided UnknownRule) ≡ unless (verdict_of (enter_checks k)) (pair_of k)
         rule_refused h = unless_refused (pair_of k) (sym verdict_is ∙ rw (fine_w, fine_r, le-ltb 15 k.bound few, lt-ltb 1 k.rule h))
 
-        pub entered : (rule : Rule) → rule_number rule ≡ k.rule
+        pub both_read : (rule : Rule) → rule_number rule ≡ k.rule
             → Ok (record { writer = w.table; reader = r.table; bound = k.bound; rule = rule }) ≡ unless (verdict_of (enter_checks k)) (pair_of k)
-        entered rule e =
+        both_read rule e =
             let is : ◌≡◌ {A = Pair} (record { writer = w.table; reader = r.table; bound = k.bound; rule = rule }) (pair_of k) =
             λ i. record { writer = (is_w i).table; reader = (is_r i).table; bound = k.bound; rule = rule_is rule e i } in
             ap (λ (p : Pair). Ok p) is
@@ -90,6 +92,14 @@ module _ (k : Call) {p : Pair} where
 pub entry_err : (k : Call) {A : Type 0} (a : A) (later : List Check) {r : Refusal} → unless (verdict_of (enter_checks k)) (pair_of k) ≡ Err r
     → Err r ≡ unless (verdict_of (enter_checks k ++ later)) a
 entry_err k a later e = unless_front a (enter_checks k) later (known_refused (verdict_of (enter_checks k)) (pair_of k) refl e)
+
+-- the pair beside the verdict, where there is a refusal too
+module _ (k : Call) {p : Pair} where
+  pub enter_fine : Ok p ≡ unless (verdict_of (enter_checks k)) (pair_of k) → Enters k (record { pair = p; verdict = Fine })
+  enter_fine e = record { pair_is = sym (entry_is k (sym e)); told = sym (entry_fine k (sym e)) }
+
+  pub enter_refused : {r : Refusal} → Err r ≡ unless (verdict_of (enter_checks k)) (pair_of k) → p ≡ pair_of k → Enters k (record { pair = p; verdict = Err r })
+  enter_refused e is = record { pair_is = is; told = sym (known_refused (verdict_of (enter_checks k)) (pair_of k) refl (sym e)) }
 
 -- a call that gives its answer by its verdict: the entry checks refuse, or the rest decides over the pair as read
 module _ {ℓ} {A : Type ℓ} (k : Call) (refuse : Refusal → A) (done : Pair → A) (later : Pair → List Check) where

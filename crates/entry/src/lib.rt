@@ -3,8 +3,9 @@
 
 ghost use Rattle.std.specs.Prelude.{◌≡◌, ◌≤◌, length};
 ghost use Rattle.format.specs.Verdicts.{verdict_of, unless};
-ghost use Rattle.calls.specs.Call.{pair_of};
+ghost use Rattle.calls.specs.Call.{rule_of, pair_of};
 ghost use Rattle.calls.specs.Refusals.{enter_checks, lent_checks};
+ghost use Rattle.entry.specs.Enter.{Enters};
 ghost use Rattle.entry.specs.Largest.{Largest};
 
 use calls::Call;
@@ -12,9 +13,16 @@ use format::{Fault, Refusal, Side, Verdict};
 use rules::{Pair, Rule};
 use tables::read;
 
+// The pair as read stands beside the verdict, as in a reading; a table that was refused is zero in every field.
+#[derive(Clone, Copy)]
+pub struct Entry {
+    pub pair: Pair,
+    pub verdict: Verdict,
+}
+
 // Both tables, then 9, then 17. Inlined, for a result of this size is copied where it is returned.
 #[inline]
-pub fn enter(call: &Call) -> Result<Pair, Refusal>
+pub fn entered(call: &Call) -> Result<Pair, Refusal>
     ensures { result ≡ unless (verdict_of (enter_checks call.now)) (pair_of call.now) }
 {
     let writer = read(call.writer, Side::Writer);
@@ -31,6 +39,44 @@ pub fn enter(call: &Call) -> Result<Pair, Refusal>
         bound: call.bound,
         rule,
     })
+}
+
+// The rule that a number chooses. One above 1 is refused, so what it chooses here is never used.
+fn rule_of(rule: u64) -> Rule
+    ensures { result ≡ rule_of rule }
+{
+    match rule {
+        0 => Rule::Registered,
+        _ => Rule::FlowThrough,
+    }
+}
+
+// The pair of a call that is refused.
+fn as_read(call: &Call) -> Pair
+    ensures { result ≡ pair_of call.now }
+{
+    Pair {
+        writer: read(call.writer, Side::Writer).table,
+        reader: read(call.reader, Side::Reader).table,
+        bound: call.bound,
+        rule: rule_of(call.rule),
+    }
+}
+
+// What `entered` gives, with the pair beside a refusal too.
+pub fn enter(call: &Call) -> Entry
+    ensures { Enters call.now result }
+{
+    match entered(call) {
+        Ok(pair) => Entry {
+            pair,
+            verdict: Ok(()),
+        },
+        Err(refusal) => Entry {
+            pair: as_read(call),
+            verdict: Err(refusal),
+        },
+    }
 }
 
 // The largest of the first n bytes. It looks at each of them, with no early exit: so the loop compiles to wide instructions.

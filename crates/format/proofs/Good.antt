@@ -61,13 +61,13 @@ side_range Writer = (omega arith, omega arith)
 side_range Reader = (omega arith, omega arith)
 
 module _ (bs : List ℕ) (side : Side) (fine : verdict_of (checks bs side) ≡ Fine) where
-  header : HeaderFine bs side
-  header = header_of bs side fine
+  header : HeaderFine bs (side_number side)
+  header = header_of bs (side_number side) side fine
 
   rows_silent : (some (bad_row bs) 0 (rows_in bs) ≡ false) × (some (fall_row bs) 0 (rows_in bs) ≡ false)
   unfolding row_checks
   rows_silent =
-      let a = header_checks bs side in
+      let a = header_checks bs (side_number side) side in
       let b = row_checks bs side in
       let e : verdict_of b ≡ Fine = fine_goes_on a b (fine_front a b fine) ∙ fine in
       let h : Silent b = fine_silent b e in

@@ -10,9 +10,8 @@ use lib.Dec.{ltb, leb, eqb}
 use borrow.Author.Tests.{lt-leb, lt-ltb, le-ltb, eq-eqb, ne_eqb, ltb-false, leb-false, eqb-true, not-false}
 use Rattle.lists.proofs.Bools.{or_none, rejected}
 use Rattle.std.specs.Prelude.{Some, Err}
-use Rattle.format.specs.declared.Side.{Side}
 use Rattle.format.specs.declared.Fault.TheVariants.{Short, UnknownVersion, UntrueLength, WrongRole, OutOfRange, NoSuchEnd}
-use Rattle.format.specs.Verdicts.{side_number, Fine, refusal, verdict_of}
+use Rattle.format.specs.Verdicts.{Fine, refusal, verdict_of}
 use Rattle.format.specs.Format.{version_in, length_in, role_in, states_in, start_in, finish_in, letters_in, rows_in}
 use Rattle.format.specs.Reads.{not_in, length_wrong, range_wrong, end_wrong, header_checks}
 
@@ -85,36 +84,36 @@ module _ (bs : List ℕ) where
 
 -- ---- the verdict on a header, in the words of the code: each line is met when those before it do not apply
 
-module _ (bs : List ℕ) (side : Side) where
-  pub header_1 : length bs < 9 → Err (refusal Short (Some side) 0) ≡ verdict_of (header_checks bs side)
+module _ {S : Type 0} (bs : List ℕ) (s : ℕ) (side : S) where
+  pub header_1 : length bs < 9 → Err (refusal Short (Some side) 0) ≡ verdict_of (header_checks bs s side)
   unfolding header_checks
   header_1 h = simp (lt-ltb _ _ h)
 
   module _ (l : 9 ≤ length bs) where
-    pub header_2 : (version_in bs ≡ 1 → ⊥) → Err (refusal UnknownVersion (Some side) 0) ≡ verdict_of (header_checks bs side)
+    pub header_2 : (version_in bs ≡ 1 → ⊥) → Err (refusal UnknownVersion (Some side) 0) ≡ verdict_of (header_checks bs s side)
     unfolding header_checks
     header_2 v = simp (le-ltb _ _ l, ne_eqb _ _ v)
 
     module _ (v : version_in bs ≡ 1) where
-      pub header_3 : length_wrong bs ≡ true → Err (refusal UntrueLength (Some side) 0) ≡ verdict_of (header_checks bs side)
+      pub header_3 : length_wrong bs ≡ true → Err (refusal UntrueLength (Some side) 0) ≡ verdict_of (header_checks bs s side)
       unfolding header_checks
       header_3 t = simp (le-ltb _ _ l, eq-eqb _ _ v, t)
 
       module _ (t : length_wrong bs ≡ false) where
-        pub header_4 : (role_in bs ≡ side_number side → ⊥) → Err (refusal WrongRole (Some side) 0) ≡ verdict_of (header_checks bs side)
+        pub header_4 : (role_in bs ≡ s → ⊥) → Err (refusal WrongRole (Some side) 0) ≡ verdict_of (header_checks bs s side)
         unfolding header_checks
         header_4 r = simp (le-ltb _ _ l, eq-eqb _ _ v, t, ne_eqb _ _ r)
 
-        module _ (r : role_in bs ≡ side_number side) where
-          pub header_5 : range_wrong bs ≡ true → Err (refusal OutOfRange (Some side) 0) ≡ verdict_of (header_checks bs side)
+        module _ (r : role_in bs ≡ s) where
+          pub header_5 : range_wrong bs ≡ true → Err (refusal OutOfRange (Some side) 0) ≡ verdict_of (header_checks bs s side)
           unfolding header_checks
           header_5 q = simp (le-ltb _ _ l, eq-eqb _ _ v, t, eq-eqb _ _ r, q)
 
           module _ (q : range_wrong bs ≡ false) where
-            pub header_6 : (EndsBelow bs → ⊥) → Err (refusal NoSuchEnd (Some side) 0) ≡ verdict_of (header_checks bs side)
+            pub header_6 : (EndsBelow bs → ⊥) → Err (refusal NoSuchEnd (Some side) 0) ≡ verdict_of (header_checks bs s side)
             unfolding header_checks
             header_6 n = simp (le-ltb _ _ l, eq-eqb _ _ v, t, eq-eqb _ _ r, q, rejected (end_wrong bs) (ends_of bs) n)
 
-            pub header_fine : EndsBelow bs → Fine ≡ verdict_of (header_checks bs side)
+            pub header_fine : EndsBelow bs → Fine ≡ verdict_of (header_checks bs s side)
             unfolding header_checks
             header_fine e = simp (le-ltb _ _ l, eq-eqb _ _ v, t, eq-eqb _ _ r, q, ends_test bs e)

@@ -2,23 +2,23 @@
 use mathlib.Core.Path.{◌≡◌, refl, sym, ap, ◌∙◌}
 use mathlib.Core.Bool.{Bool, true, false, cond}
 use mathlib.Core.List.{List, [], ◌∷◌, ◌++◌}
+use Rattle.format.specs.declared.RefusalOf.{RefusalOf}
 use Rattle.std.specs.Prelude.{Result, Ok, Err, IsErr, IsErrAnd}
-use Rattle.format.specs.declared.Refusal.{Refusal}
-use Rattle.format.specs.Verdicts.{Verdict, Fine, Check, verdict_of, and_then, given, unless}
+use Rattle.format.specs.Verdicts.{Refusal, VerdictOf, Verdict, Fine, Check, CheckOf, verdict_of, and_then, given, unless}
 
-pub refused_not_fine : {r : Refusal} → ◌≡◌ {A = Verdict} (Err r) Fine → ⊥
+pub refused_not_fine : {S : Type 0} {r : RefusalOf S} → ◌≡◌ {A = VerdictOf S} (Err r) Fine → ⊥
 refused_not_fine e = cc
 
 -- no check of the list applies
-abbrev pub Silent : List Check → Type 0
+abbrev pub Silent : {S : Type 0} → List (CheckOf S) → Type 0
 Silent [] = Unit {0}
 Silent (c ∷ cs) = (c.applies ≡ false) × Silent cs
 
-silent_by : (t : Bool) (r : Refusal) (v : Verdict) → cond t (Err r) v ≡ Fine → (t ≡ false) × (v ≡ Fine)
+silent_by : {S : Type 0} (t : Bool) (r : RefusalOf S) (v : VerdictOf S) → cond t (Err r) v ≡ Fine → (t ≡ false) × (v ≡ Fine)
 silent_by true r v e = absurd (refused_not_fine e)
 silent_by false r v e = (refl, e)
 
-pub fine_silent : (cs : List Check) → verdict_of cs ≡ Fine → Silent cs
+pub fine_silent : {S : Type 0} (cs : List (CheckOf S)) → verdict_of cs ≡ Fine → Silent cs
 fine_silent [] e = tt
 fine_silent (c ∷ cs) e = let h = silent_by c.applies c.refuses (verdict_of cs) e in (h.0, fine_silent cs h.1)
 
@@ -29,11 +29,11 @@ handed_on (Err _) h = ap Err h.1
 
 -- ---- checks that are followed by others
 
-pub verdict_append : (cs ds : List Check) → verdict_of (cs ++ ds) ≡ and_then (verdict_of cs) (verdict_of ds)
+pub verdict_append : {S : Type 0} (cs ds : List (CheckOf S)) → verdict_of (cs ++ ds) ≡ and_then (verdict_of cs) (verdict_of ds)
 verdict_append [] ds = refl
-verdict_append (c ∷ cs) ds = go (verdict_append cs ds) c.applies
+verdict_append {S} (c ∷ cs) ds = go (verdict_append cs ds) c.applies
   where
-    it : Verdict
+    it : VerdictOf S
     it = Err c.refuses
 
     go : verdict_of (cs ++ ds) ≡ and_then (verdict_of cs) (verdict_of ds)
@@ -41,25 +41,25 @@ verdict_append (c ∷ cs) ds = go (verdict_append cs ds) c.applies
     go later true = refl
     go later false = later
 
-pub then_fine : (v w : Verdict) → and_then v w ≡ Fine → (v ≡ Fine) × (w ≡ Fine)
+pub then_fine : {S : Type 0} (v w : VerdictOf S) → and_then v w ≡ Fine → (v ≡ Fine) × (w ≡ Fine)
 then_fine (Ok _) w e = (refl, e)
 then_fine (Err r) w e = absurd (refused_not_fine e)
 
-pub then_none : (v : Verdict) → and_then v Fine ≡ v
+pub then_none : {S : Type 0} (v : VerdictOf S) → and_then v Fine ≡ v
 then_none (Ok _) = refl
 then_none (Err r) = refl
 
-pub then_refused : {v : Verdict} {r : Refusal} (w : Verdict) → v ≡ Err r → v ≡ and_then v w
+pub then_refused : {S : Type 0} {v : VerdictOf S} {r : RefusalOf S} (w : VerdictOf S) → v ≡ Err r → v ≡ and_then v w
 then_refused w e = rw e
 
-module _ (cs ds : List Check) where
+module _ {S : Type 0} (cs ds : List (CheckOf S)) where
   pub fine_front : verdict_of (cs ++ ds) ≡ Fine → verdict_of cs ≡ Fine
   fine_front e = (then_fine (verdict_of cs) (verdict_of ds) (sym (verdict_append cs ds) ∙ e)).0
 
   pub fine_goes_on : verdict_of cs ≡ Fine → verdict_of ds ≡ verdict_of (cs ++ ds)
   fine_goes_on e = sym (verdict_append cs ds ∙ rw e)
 
-  pub refused_stays : {r : Refusal} → verdict_of cs ≡ Err r → verdict_of cs ≡ verdict_of (cs ++ ds)
+  pub refused_stays : {r : RefusalOf S} → verdict_of cs ≡ Err r → verdict_of cs ≡ verdict_of (cs ++ ds)
   refused_stays e = then_refused (verdict_of ds) e ∙ sym (verdict_append cs ds)
 
 -- ---- what a call gives, by its verdict

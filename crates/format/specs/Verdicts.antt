@@ -6,7 +6,7 @@ use Rattle.format.specs.declared.Side.TheVariants.{Writer, Reader}
 use Rattle.format.specs.declared.Fault.{Fault}
 use Rattle.format.specs.declared.Fault.TheVariants.{Short, UnknownVersion, UntrueLength, WrongRole, OutOfRange, NoSuchEnd, BadField, NotRising, BoundTooLarge, NoRoom}
 use Rattle.format.specs.declared.Fault.TheVariants.{StartDropped, KeptByte, NoConfiguration, NoLetter, NotAllowed, NoRow, UnknownRule, UntrueList, BadMovePermitted, NoWayToFinish}
-use Rattle.format.specs.declared.Refusal.{Refusal}
+use Rattle.format.specs.declared.RefusalOf.{RefusalOf}
 
 -- side 1 writes, 2 reads
 abbrev pub side_number : Side → ℕ
@@ -36,17 +36,23 @@ fault_number UntrueList = 18
 fault_number BadMovePermitted = 19
 fault_number NoWayToFinish = 20
 
--- fine, or refused with number, side and row
-abbrev pub Verdict : Type 0
-Verdict = Result (Unit {0}) Refusal
+-- fine, or refused with number, side and row; a side is a `Side`, but where a test takes any name for it
+abbrev pub VerdictOf : Type 0 → Type 0
+VerdictOf S = Result (Unit {0}) (RefusalOf S)
 
-abbrev pub Fine : Verdict
+abbrev pub Refusal : Type 0
+Refusal = RefusalOf Side
+
+abbrev pub Verdict : Type 0
+Verdict = VerdictOf Side
+
+abbrev pub Fine : {S : Type 0} → VerdictOf S
 Fine = Ok tt
 
-abbrev pub refusal : Fault → Option Side → ℕ → Refusal
+abbrev pub refusal : {S : Type 0} → Fault → Option S → ℕ → RefusalOf S
 refusal fault side row = record { fault = fault; side = side; row = row }
 
-abbrev pub Refused : Fault → Option Side → ℕ → Verdict
+abbrev pub Refused : {S : Type 0} → Fault → Option S → ℕ → VerdictOf S
 Refused fault side row = Err (refusal fault side row)
 
 -- of no side and no row
@@ -71,20 +77,23 @@ row_of (Ok _) = 0
 row_of (Err r) = r.row
 
 -- a line of the table of refusals: its refusal, and when it applies
-pub record Check : Type 0 where
-  pub refuses : Refusal
+pub record CheckOf (S : Type 0) : Type 0 where
+  pub refuses : RefusalOf S
   pub applies : Bool
 
-abbrev pub when : Fault → Option Side → ℕ → Bool → Check
+abbrev pub Check : Type 0
+Check = CheckOf Side
+
+abbrev pub when : {S : Type 0} → Fault → Option S → ℕ → Bool → CheckOf S
 when fault side row applies = record { refuses = refusal fault side row; applies = applies }
 
 -- the lowest number that applies is given: the lines stand in their order, and the first that applies refuses
-abbrev pub verdict_of : List Check → Verdict
+abbrev pub verdict_of : {S : Type 0} → List (CheckOf S) → VerdictOf S
 verdict_of [] = Fine
 verdict_of (c ∷ cs) = cond c.applies (Err c.refuses) (verdict_of cs)
 
 -- the second verdict where the first is fine
-abbrev pub and_then : Verdict → Verdict → Verdict
+abbrev pub and_then : {S : Type 0} → VerdictOf S → VerdictOf S → VerdictOf S
 and_then (Ok _) v = v
 and_then (Err r) v = Err r
 

@@ -100,15 +100,17 @@ impl Fault {
     }
 }
 
-// Number, side and row: no side is side 0.
+// Number, side and row: no side is side 0. A call names a side by `Side`; the tests of a table refuse by what their caller names it with.
 #[derive(Clone, Copy, Debug, PartialEq, Eq)]
-pub struct Refusal {
+pub struct RefusalOf<S> {
     pub fault: Fault,
-    pub side: Option<Side>,
+    pub side: Option<S>,
     pub row: u16,
 }
 
-impl Refusal {
+pub type Refusal = RefusalOf<Side>;
+
+impl RefusalOf<Side> {
     // Of a side, and no row.
     pub fn of(fault: Fault, side: Side) -> Refusal
         ensures { result ≡ refusal fault (Some side) 0 }
@@ -132,7 +134,7 @@ impl Refusal {
 }
 
 // Of no side and no row.
-impl From<Fault> for Refusal {
+impl From<Fault> for RefusalOf<Side> {
     ghost from_gives = { λ fault refusal. refusal ≡ unsided fault };
 
     fn from(fault: Fault) -> Refusal {

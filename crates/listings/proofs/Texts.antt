@@ -22,7 +22,7 @@ use Rattle.texts.specs.Text.{first_line, conf_line, refusal_line}
 use Rattle.texts.specs.Written.{Written}
 use Rattle.listings.specs.Pages.{head_as, head_text, asked_text, spot_text, text_at, place_text}
 use Rattle.std.specs.Prelude.{Err}
-use Rattle.format.specs.declared.Refusal.{Refusal}
+use Rattle.format.specs.Verdicts.{Refusal}
 
 -- ---- no text leaves the buffer as it was
 

@@ -13,7 +13,7 @@ ghost use Rattle.listings.specs.Pages.{HeadSays, text_at, place_text};
 use ask::ask;
 use build::build;
 use calls::Call;
-use entry::enter;
+use entry::entered;
 use lines::{conf_line, first_line, refusal_line};
 use numbers::places::{frame_of, places};
 use rules::At;
@@ -23,7 +23,7 @@ fn all_places(call: &Call) -> u64
     requires { verdict_of (enter_checks call.now) ≡ Fine }
     ensures { result ≡ size (pair_of call.now) }
 {
-    match enter(call) {
+    match entered(call) {
         Ok(p) => {
             let f = frame_of(p);
             places(f, f.n1) as u64
@@ -80,7 +80,7 @@ pub fn place_line(out: &mut [u8; 512], call: &Call, kept: &[u8], p: usize) -> us
     if kept[p] != 1 {
         return 0;
     }
-    let Ok(pair) = enter(call) else {
+    let Ok(pair) = entered(call) else {
         return 0;
     };
     spot_line(out, call, kept, p as u64, u64::from(pair.reader.states))

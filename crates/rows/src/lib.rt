@@ -7,7 +7,7 @@ ghost use Rattle.format.specs.Verdicts.{refusal, verdict_of};
 ghost use Rattle.format.specs.Format.{zero_row, rows_in, row_at};
 ghost use Rattle.format.specs.Reads.{row_fits, rises, bad_row, fall_row, row_checks};
 
-use format::{Fault, Refusal, Row, Side, Verdict};
+use format::{Fault, RefusalOf, Row};
 
 pub const HEADER: usize = 9;
 
@@ -70,19 +70,19 @@ fn fall_row(b: &[u8], i: usize) -> bool
     0 < i && !is_rising(row_at(b, i - 1), row_at(b, i))
 }
 
-fn refuse_row(fault: Fault, side: Side, row: usize) -> Refusal
+fn refuse_row<S: Copy>(fault: Fault, side: S, row: usize) -> RefusalOf<S>
     requires { row < 64 }
     ensures { result ≡ refusal fault (Some side) row }
 {
-    Refusal {
+    RefusalOf {
         fault,
         side: Some(side),
         row: row as u16,
     }
 }
 
-// Refusals 7 and 8: 7 is tried over the whole table first.
-pub fn check_rows(b: &[u8], side: Side) -> Verdict
+// Refusals 7 and 8: 7 is tried over the whole table first. The side is named as the caller names it, by a `Side` or by any number.
+pub fn check_rows<S: Copy>(b: &[u8], side: S) -> Result<(), RefusalOf<S>>
     requires { (rows_in b.now ≤ 64) × (9 + 5 * rows_in b.now ≤ length b.now) }
     ensures { result ≡ verdict_of (row_checks b.now side) }
 {

@@ -1,6 +1,6 @@
 -- The numbers of the rules (request a) and of the reasons (request b). Assumes nothing.
 use Rattle.std.specs.Prelude.{ℕ, ◌≡◌, ◌<◌, Result, MatchResult}
-use Rattle.format.specs.declared.Refusal.{Refusal}
+use Rattle.format.specs.Verdicts.{Refusal}
 use Rattle.format.specs.declared.Fault.TheVariants.{UnknownRule}
 use Rattle.format.specs.Verdicts.{unsided}
 use Rattle.rules.specs.declared.Rule.{Rule}

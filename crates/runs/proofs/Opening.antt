@@ -21,7 +21,7 @@ use Rattle.calls.specs.Runs.{conf_of}
 use Rattle.calls.specs.Step.{nonzero, run_check, open_checks}
 use Rattle.std.specs.Prelude.{Ok, Err}
 use Rattle.format.specs.declared.Fault.TheVariants.{NoConfiguration}
-use Rattle.format.specs.declared.Refusal.{Refusal}
+use Rattle.format.specs.Verdicts.{Refusal}
 
 -- ---- the places past the level, as a search of the list
 

@@ -1,20 +1,21 @@
 // A run with real items: the calls begin and step. Document 01, "The calls and what they return". Neither writes lent memory.
 #![tactic(auto)]
 
-ghost use Rattle.std.specs.Prelude.{◌≡◌, ℕ};
+ghost use Rattle.std.specs.Prelude.{◌≡◌, ◌++◌, ℕ};
 ghost use Rattle.lists.specs.Search.{some};
 ghost use Rattle.format.specs.Verdicts.{verdict_of, unless};
 ghost use Rattle.calls.specs.Call.{call_of, pair_of};
 ghost use Rattle.calls.specs.Begin.{empty_at, begin_of};
-ghost use Rattle.calls.specs.Step.{nonzero, open_checks, step_checks, done_of, refused_step, step_of};
+ghost use Rattle.calls.specs.Step.{nonzero, open_checks, step_of};
 ghost use Rattle.calls.specs.Past.{Entered};
+ghost use Rattle.calls.specs.Refusals.{enter_checks};
 
 use ask::find;
 use calls::{Begun, Call, Cycle, Run, Stepped};
-use entry::enter;
+use entry::{enter, entered};
 use format::{Fault, Refusal, Verdict};
 use rules::{At, Pair};
-use turns::turn;
+use turns::{refused, turn};
 
 fn empty_run(writer: u64, reader: u64) -> Run
     ensures { result ≡ empty_at writer reader }
@@ -38,13 +39,14 @@ pub fn begin(writer: &[u8], reader: &[u8], bound: u64) -> Begun
         bound,
         rule: 0,
     };
-    let entered = enter(&call);
-    let Ok(p) = entered else {
+    let entry = enter(&call);
+    let Ok(()) = entry.verdict else {
         return Begun {
-            verdict: entered.and(Ok(())),
+            verdict: entry.verdict,
             run: empty_run(0, 0),
         };
     };
+    let p = entry.pair;
     Begun {
         verdict: Ok(()),
         run: empty_run(u64::from(p.writer.start), u64::from(p.reader.start)),
@@ -74,31 +76,21 @@ fn open(p: Pair, kept: &[u8], run: Run) -> Verdict
     Ok(())
 }
 
-fn stepped(call: &Call, kept: &[u8], run: Run, cycle: Cycle) -> Result<Stepped, Refusal>
-    ensures { result ≡ unless (verdict_of (step_checks call.now kept.now run cycle)) (done_of (pair_of call.now) run cycle) }
+// All that a call tests before its cycle.
+fn opened(call: &Call, kept: &[u8], run: Run) -> Result<Pair, Refusal>
+    ensures { result ≡ unless (verdict_of (enter_checks call.now ++ open_checks (pair_of call.now) kept.now run)) (pair_of call.now) }
 {
-    let p = enter(call)?;
+    let p = entered(call)?;
     open(p, kept, run)?;
-    turn(p, kept, run, cycle)
-}
-
-fn refused(refusal: Refusal, run: Run) -> Stepped
-    ensures { result ≡ refused_step run refusal }
-{
-    Stepped {
-        verdict: Err(refusal),
-        run,
-        item: 0,
-        mark: 0,
-    }
+    Ok(p)
 }
 
 // One cycle of a run. A refused step returns the run given, also one that makes no sense.
 pub fn step(call: &Call, kept: &[u8], run: Run, cycle: Cycle) -> Stepped
     ensures { result ≡ step_of call.now kept.now run cycle }
 {
-    match stepped(call, kept, run, cycle) {
-        Ok(done) => done,
+    match opened(call, kept, run) {
+        Ok(p) => turn(p, kept, run, cycle),
         Err(refusal) => refused(refusal, run),
     }
 }

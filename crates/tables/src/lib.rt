@@ -3,7 +3,7 @@
 #![tactic(auto)]
 
 ghost use Rattle.std.specs.Prelude.{◌≡◌, ◌+◌, ◌*◌, ◌≤◌, length};
-ghost use Rattle.format.specs.Verdicts.{verdict_of};
+ghost use Rattle.format.specs.Verdicts.{side_number, verdict_of};
 ghost use Rattle.format.specs.Format.{rows_in, rows_of, table_of};
 ghost use Rattle.format.specs.Reads.{length_wrong, range_wrong, header_checks, checks, refused_as, read_of};
 
@@ -55,7 +55,7 @@ fn length_wrong(b: &[u8]) -> bool
 
 // Refusals 1 to 6.
 fn check_header(b: &[u8], side: Side) -> Verdict
-    ensures { result ≡ verdict_of (header_checks b.now side) }
+    ensures { result ≡ verdict_of (header_checks b.now (side_number side) side) }
 {
     if b.len() < HEADER {
         return Err(Refusal::of(Fault::Short, side));
@@ -142,11 +142,11 @@ fn taken(b: &[u8]) -> Table
 pub fn read(bytes: &[u8], side: Side) -> Reading
     ensures { result ≡ read_of bytes.now side }
 {
-    match check(bytes, side) {
-        Ok(()) => Reading {
-            table: taken(bytes),
-            verdict: Ok(()),
-        },
-        Err(refusal) => refused(refusal),
+    if let Err(refusal) = check(bytes, side) {
+        return refused(refusal);
+    }
+    Reading {
+        table: taken(bytes),
+        verdict: Ok(()),
     }
 }

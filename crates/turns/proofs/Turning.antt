@@ -37,7 +37,7 @@ use Rattle.calls.proofs.Turns.{found_movable}
 use Rattle.turns.specs.Cycles.{row_checks, Answerable}
 use Rattle.format.specs.declared.Side.TheVariants.{Writer, Reader}
 use Rattle.format.specs.declared.Fault.TheVariants.{NotAllowed, NoRow}
-use Rattle.format.specs.declared.Refusal.{Refusal}
+use Rattle.format.specs.Verdicts.{Refusal}
 
 -- ---- the row that state, letter and answer fix, as a search of the used rows gives it
 

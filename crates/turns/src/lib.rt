@@ -8,7 +8,7 @@ ghost use Rattle.rules.specs.Numbers.{reason_number};
 ghost use Rattle.format.specs.Verdicts.{refusal, verdict_of, unless};
 ghost use Rattle.format.specs.declared.Fault.TheVariants.{NotAllowed};
 ghost use Rattle.calls.specs.Runs.{conf_of};
-ghost use Rattle.calls.specs.Step.{done_by, done_of, turn_checks};
+ghost use Rattle.calls.specs.Step.{done_by, done_of, refused_step, turn_checks, turn_of};
 ghost use Rattle.calls.specs.Past.{Askable, Movable};
 ghost use Rattle.turns.specs.Cycles.{row_checks, Answerable};
 
@@ -41,9 +41,9 @@ fn is_for(row: Row, state: u64, letter: u64, answer: u64) -> bool
 }
 
 // The row that state, letter and answer fix.
-fn row_of(t: &Table, state: u64, letter: u64, answer: u64) -> Option<Row>
-    requires { t.now.count ≤ 64 }
-    ensures { result ≡ find (λ r. is_for state letter r && eqb r.answer answer) (take t.now.count t.now.rows) }
+fn row_of(t: Table, state: u64, letter: u64, answer: u64) -> Option<Row>
+    requires { t.count ≤ 64 }
+    ensures { result ≡ find (λ r. is_for state letter r && eqb r.answer answer) (take t.count t.rows) }
 {
     let rows = &t.rows[..usize::from(t.count)];
     rows.iter()
@@ -81,7 +81,7 @@ fn by_answers(p: Pair, run: Run, cycle: Cycle) -> Result<Stepped, Refusal>
     ensures { result ≡ unless (verdict_of (row_checks p run cycle)) (done_of p run cycle) }
 {
     let Some(written) = row_of(
-        &p.writer,
+        p.writer,
         run.writer,
         cycle.writer_letter,
         cycle.writer_answer,
@@ -89,7 +89,7 @@ fn by_answers(p: Pair, run: Run, cycle: Cycle) -> Result<Stepped, Refusal>
         return Err(Refusal::of(Fault::NoRow, Side::Writer));
     };
     let Some(taken) = row_of(
-        &p.reader,
+        p.reader,
         run.reader,
         cycle.reader_letter,
         cycle.reader_answer,
@@ -99,7 +99,7 @@ fn by_answers(p: Pair, run: Run, cycle: Cycle) -> Result<Stepped, Refusal>
     Ok(done(run, written, taken, cycle.incoming))
 }
 
-pub fn turn(p: Pair, kept: &[u8], run: Run, cycle: Cycle) -> Result<Stepped, Refusal>
+fn turned(p: Pair, kept: &[u8], run: Run, cycle: Cycle) -> Result<Stepped, Refusal>
     requires { Askable p kept.now (conf_of run) }
     ensures { result ≡ unless (verdict_of (turn_checks p kept.now run cycle)) (done_of p run cycle) }
 {
@@ -116,4 +116,26 @@ pub fn turn(p: Pair, kept: &[u8], run: Run, cycle: Cycle) -> Result<Stepped, Ref
         return by_answers(p, run, cycle);
     }
     Err(not_allowed(reason))
+}
+
+// A refused cycle leaves the run as it was.
+pub fn refused(refusal: Refusal, run: Run) -> Stepped
+    ensures { result ≡ refused_step run refusal }
+{
+    Stepped {
+        verdict: Err(refusal),
+        run,
+        item: 0,
+        mark: 0,
+    }
+}
+
+pub fn turn(p: Pair, kept: &[u8], run: Run, cycle: Cycle) -> Stepped
+    requires { Askable p kept.now (conf_of run) }
+    ensures { result ≡ turn_of p kept.now run cycle }
+{
+    match turned(p, kept, run, cycle) {
+        Ok(done) => done,
+        Err(refusal) => refused(refusal, run),
+    }
 }

@@ -10,7 +10,7 @@ ghost use Rattle.calls.specs.Why.{explained, unexplained, why_checks, why_of};
 
 use ask::find;
 use calls::{Call, Explained};
-use entry::enter;
+use entry::entered;
 use format::Refusal;
 use reasons::{check_letters, reason_at};
 use rules::{At, Reason};
@@ -38,7 +38,7 @@ fn reason(call: &Call, kept: &[u8], at: At, x: u64, y: u64) -> Result<Reason, Re
     ensures { result ≡ unless (verdict_of (why_checks call.now kept.now (conf_named at) x y))
         (reason_of (pair_of call.now) kept.now (conf_named at) x y) }
 {
-    let p = enter(call)?;
+    let p = entered(call)?;
     let c = find(p, kept, at)?;
     check_letters(p, x, y)?;
     Ok(reason_at(kept, p, c, x as u8, y as u8))

@@ -15,10 +15,10 @@ returns-in_err-p c =
     let a = c.args in
     let asked = conf_named a.at in
     handed_on _ c.from_residual.ensures
-    ∙ entry_err a.call.now (move_set (pair_of a.call.now) a.kept.now asked) (asks_checks (pair_of a.call.now) a.kept.now asked) (sym c.enter.ensures ∙ c.in_err-p.was)
+    ∙ entry_err a.call.now (move_set (pair_of a.call.now) a.kept.now asked) (asks_checks (pair_of a.call.now) a.kept.now asked) (sym c.entered.ensures ∙ c.in_err-p.was)
 
 pub find-requires : goal.find-requires
-find-requires c = entry_known c.args.call.now (sym c.enter.ensures ∙ c.in_ok-p.was)
+find-requires c = entry_known c.args.call.now (sym c.entered.ensures ∙ c.in_ok-p.was)
 
 pub returns-in_err-c : goal.returns-in_err-c
 returns-in_err-c c =
@@ -26,14 +26,14 @@ returns-in_err-c c =
     let asked = conf_named a.at in
     handed_on _ c.from_residual-in_err-c.ensures
     ∙ unless_refused _ (known_refused _ asked c.find.ensures c.in_err-c.was)
-    ∙ entry_ok a.call.now (sym c.enter.ensures ∙ c.in_ok-p.was) (λ (X : Pair). move_set X a.kept.now asked) (λ (X : Pair). asks_checks X a.kept.now asked)
+    ∙ entry_ok a.call.now (sym c.entered.ensures ∙ c.in_ok-p.was) (λ (X : Pair). move_set X a.kept.now asked) (λ (X : Pair). asks_checks X a.kept.now asked)
 
 pub allowed_at-requires : goal.allowed_at-requires
 allowed_at-requires c =
     let a = c.args in
     let asked = conf_named a.at in
     rw (← known_value _ asked c.find.ensures c.in_ok-c.was)
-    (ask_known _ a.kept.now asked (entry_known a.call.now (sym c.enter.ensures ∙ c.in_ok-p.was)) (known_fine _ asked c.find.ensures c.in_ok-c.was))
+    (ask_known _ a.kept.now asked (entry_known a.call.now (sym c.entered.ensures ∙ c.in_ok-p.was)) (known_fine _ asked c.find.ensures c.in_ok-c.was))
 
 pub returns : goal.returns
 returns c =
@@ -41,4 +41,4 @@ returns c =
     let asked = conf_named a.at in
     ap Ok (c.allowed_at.ensures ∙ rw (← known_value _ asked c.find.ensures c.in_ok-c.was))
     ∙ unless_fine _ (known_fine _ asked c.find.ensures c.in_ok-c.was)
-    ∙ entry_ok a.call.now (sym c.enter.ensures ∙ c.in_ok-p.was) (λ (X : Pair). move_set X a.kept.now asked) (λ (X : Pair). asks_checks X a.kept.now asked)
+    ∙ entry_ok a.call.now (sym c.entered.ensures ∙ c.in_ok-p.was) (λ (X : Pair). move_set X a.kept.now asked) (λ (X : Pair). asks_checks X a.kept.now asked)

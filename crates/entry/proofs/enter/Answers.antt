@@ -1,33 +1,10 @@
 -- `entry::enter` meets its contract. Assumes nothing.
-use mathlib.Core.Path.{refl, ◌∙◌}
-use Rattle.format.proofs.Verdicts.{handed_on}
-use Rattle.entry.proofs.Entering.{writer_refused, reader_refused, bound_refused, rule_refused, entered}
+use mathlib.Core.Path.{sym, ◌∙◌}
+use Rattle.entry.proofs.Entering.{enter_fine, enter_refused}
 use Rattle.entry.proofs.enter.Goals as goal
 
-pub returns-in_err-writer : goal.returns-in_err-writer
-returns-in_err-writer c =
-    rw (← c.call.view_is)
-    (handed_on _ c.from_residual.ensures ∙ writer_refused _ c.read-writer.ensures refl c.in_err-writer.was)
+pub returns-in-Ok : goal.returns-in-Ok
+returns-in-Ok c = enter_fine _ (sym c.in-Ok.is ∙ c.entered.ensures)
 
-pub returns-in_err-reader : goal.returns-in_err-reader
-returns-in_err-reader c =
-    rw (← c.call.view_is)
-    (handed_on _ c.from_residual-in_err-reader.ensures
-    ∙ reader_refused _ c.read-writer.ensures c.read-reader.ensures c.in_ok-writer.was c.in_err-reader.was)
-
-pub returns-then-call-gt15 : goal.returns-then-call-gt15
-returns-then-call-gt15 c =
-    rw (← c.call.view_is, c.from.ensures)
-    (bound_refused _ c.read-writer.ensures c.read-reader.ensures c.in_ok-writer.was c.in_ok-reader.was c.if-call-gt15.true)
-
-pub returns-in_err-rule : goal.returns-in_err-rule
-returns-in_err-rule c =
-    rw (← c.call.view_is)
-    (handed_on _ c.from_residual-in_err-rule.ensures
-    ∙ rw c.in_err-rule.ensures.0
-    (rule_refused _ c.read-writer.ensures c.read-reader.ensures c.in_ok-writer.was c.in_ok-reader.was c.if-call-gt15.false c.in_err-rule.ensures.1))
-
-pub returns : goal.returns
-returns c =
-    rw (← c.call.view_is)
-    (entered _ c.read-writer.ensures c.read-reader.ensures c.in_ok-writer.was c.in_ok-reader.was c.if-call-gt15.false _ c.in_ok-rule.ensures)
+pub returns-in-Err : goal.returns-in-Err
+returns-in-Err c = enter_refused _ (sym c.in-Err.is ∙ c.entered.ensures) c.as_read.ensures

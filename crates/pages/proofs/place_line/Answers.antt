@@ -16,11 +16,11 @@ returns-then-kept-p-ne1 c = nothing _ (place_out _ _ _ c.if-kept-p-ne1.true)
 
 pub returns-in_default : goal.returns-in_default
 returns-in_default c =
-    nothing _ (place_refused _ _ _ c.if-kept-p-ne1.false (known_refused _ (pair_of c.args.call.now) c.enter.ensures c.in_default.is))
+    nothing _ (place_refused _ _ _ c.if-kept-p-ne1.false (known_refused _ (pair_of c.args.call.now) c.entered.ensures c.in_default.is))
 
 pub spot_line-requires : goal.spot_line-requires
 spot_line-requires c =
-    let ok = sym c.enter.ensures ∙ c.in-Ok.is in
+    let ok = sym c.entered.ensures ∙ c.in-Ok.is in
     let known = entry_known c.args.call.now ok in
     let same = ap (λ (X : Pair). X.bound) (entry_is c.args.call.now ok) in
     let readers = ap (λ (X : Pair). X.reader.states) (entry_is c.args.call.now ok) in

@@ -11,11 +11,11 @@ fine : Table → Reading
 fine t = record { table = t; verdict = Fine }
 
 pub taken-requires : goal.taken-requires
-taken-requires c = let h = header_of _ _ (sym c.check.ensures ∙ c.in-Ok.is) in (h.ranges.4, omega arith)
+taken-requires c = let h = header_of _ _ _ (sym c.check.ensures ∙ c.in_default.is) in (h.ranges.4, omega arith)
 
-pub returns-in-Ok : goal.returns-in-Ok
+pub returns : goal.returns
 unfolding fine
-returns-in-Ok c = ap fine c.taken.ensures ∙ read_fine _ _ c.check.ensures c.in-Ok.is
+returns c = ap fine c.taken.ensures ∙ read_fine _ _ c.check.ensures c.in_default.is
 
 pub returns-in-Err : goal.returns-in-Err
 returns-in-Err c = c.refused.ensures ∙ read_refused _ _ c.check.ensures c.in-Err.is

@@ -21,10 +21,10 @@ returns-in_err-p c =
     let asked = conf_named a.at in
     let X = pair_of a.call.now in
     handed_on _ c.from_residual.ensures
-    ∙ entry_err a.call.now (reason_of X a.kept.now asked a.x a.y) (whys_checks X a.kept.now asked a.x a.y) (sym c.enter.ensures ∙ c.in_err-p.was)
+    ∙ entry_err a.call.now (reason_of X a.kept.now asked a.x a.y) (whys_checks X a.kept.now asked a.x a.y) (sym c.entered.ensures ∙ c.in_err-p.was)
 
 pub find-requires : goal.find-requires
-find-requires c = entry_known c.args.call.now (sym c.enter.ensures ∙ c.in_ok-p.was)
+find-requires c = entry_known c.args.call.now (sym c.entered.ensures ∙ c.in_ok-p.was)
 
 pub returns-in_err-c : goal.returns-in_err-c
 returns-in_err-c c =
@@ -34,7 +34,7 @@ returns-in_err-c c =
     let r = reason_of p a.kept.now asked a.x a.y in
     handed_on _ c.from_residual-in_err-c.ensures
     ∙ unless_front r (asks_checks p a.kept.now asked) (letter_checks p a.x a.y) (known_refused _ asked c.find.ensures c.in_err-c.was)
-    ∙ entry_ok a.call.now (sym c.enter.ensures ∙ c.in_ok-p.was) (λ (X : Pair). reason_of X a.kept.now asked a.x a.y)
+    ∙ entry_ok a.call.now (sym c.entered.ensures ∙ c.in_ok-p.was) (λ (X : Pair). reason_of X a.kept.now asked a.x a.y)
     (λ (X : Pair). whys_checks X a.kept.now asked a.x a.y)
 
 pub returns-in_err-check_letters : goal.returns-in_err-check_letters
@@ -46,21 +46,21 @@ returns-in_err-check_letters c =
     handed_on _ c.from_residual-in_err-check_letters.ensures
     ∙ unless_refused r (sym c.check_letters.ensures ∙ c.in_err-check_letters.was)
     ∙ unless_goes_on r (asks_checks p a.kept.now asked) (letter_checks p a.x a.y) (known_fine _ asked c.find.ensures c.in_ok-c.was)
-    ∙ entry_ok a.call.now (sym c.enter.ensures ∙ c.in_ok-p.was) (λ (X : Pair). reason_of X a.kept.now asked a.x a.y)
+    ∙ entry_ok a.call.now (sym c.entered.ensures ∙ c.in_ok-p.was) (λ (X : Pair). reason_of X a.kept.now asked a.x a.y)
     (λ (X : Pair). whys_checks X a.kept.now asked a.x a.y)
 
 pub overflow_cast-x : goal.overflow_cast-x
 overflow_cast-x c =
     let a = c.args in
     let l = letters_known c.in_ok-p.p a.x a.y (sym c.check_letters.ensures ∙ c.in_ok-check_letters.was) in
-    let known = entry_known a.call.now (sym c.enter.ensures ∙ c.in_ok-p.was) in
+    let known = entry_known a.call.now (sym c.entered.ensures ∙ c.in_ok-p.was) in
     omega (arith, l.0, known.good.writer.letters)
 
 pub overflow_cast-y : goal.overflow_cast-y
 overflow_cast-y c =
     let a = c.args in
     let l = letters_known c.in_ok-p.p a.x a.y (sym c.check_letters.ensures ∙ c.in_ok-check_letters.was) in
-    let known = entry_known a.call.now (sym c.enter.ensures ∙ c.in_ok-p.was) in
+    let known = entry_known a.call.now (sym c.entered.ensures ∙ c.in_ok-p.was) in
     omega (arith, l.1, known.good.reader.letters)
 
 pub reason_at-requires : goal.reason_at-requires
@@ -69,7 +69,7 @@ reason_at-requires c =
     let asked = conf_named a.at in
     let p = c.in_ok-p.p in
     let able : Askable p a.kept.now asked =
-    ask_known p a.kept.now asked (entry_known a.call.now (sym c.enter.ensures ∙ c.in_ok-p.was)) (known_fine _ asked c.find.ensures c.in_ok-c.was) in
+    ask_known p a.kept.now asked (entry_known a.call.now (sym c.entered.ensures ∙ c.in_ok-p.was)) (known_fine _ asked c.find.ensures c.in_ok-c.was) in
     let l = letters_known p a.x a.y (sym c.check_letters.ensures ∙ c.in_ok-check_letters.was) in
     let g = able.good in
     (rw (← known_value _ asked c.find.ensures c.in_ok-c.was) able, omega (arith, l.0, g.writer.letters), omega (arith, l.1, g.reader.letters))
@@ -83,5 +83,5 @@ returns c =
     ap Ok (c.reason_at.ensures ∙ rw (← known_value _ asked c.find.ensures c.in_ok-c.was))
     ∙ unless_fine r (sym c.check_letters.ensures ∙ c.in_ok-check_letters.was)
     ∙ unless_goes_on r (asks_checks p a.kept.now asked) (letter_checks p a.x a.y) (known_fine _ asked c.find.ensures c.in_ok-c.was)
-    ∙ entry_ok a.call.now (sym c.enter.ensures ∙ c.in_ok-p.was) (λ (X : Pair). reason_of X a.kept.now asked a.x a.y)
+    ∙ entry_ok a.call.now (sym c.entered.ensures ∙ c.in_ok-p.was) (λ (X : Pair). reason_of X a.kept.now asked a.x a.y)
     (λ (X : Pair). whys_checks X a.kept.now asked a.x a.y)

@@ -9,7 +9,7 @@ use Rattle.format.specs.declared.Reading.{Reading}
 use Rattle.format.specs.Verdicts.{Refusal}
 use Rattle.format.specs.declared.Fault.TheVariants.{BoundTooLarge, UnknownRule}
 use Rattle.format.specs.declared.Side.TheVariants.{Writer, Reader}
-use Rattle.format.specs.Verdicts.{Fine, unsided, Check, verdict_of, and_then, given, unless}
+use Rattle.format.specs.Verdicts.{Verdict, Fine, unsided, Check, verdict_of, and_then, given, unless}
 use Rattle.format.specs.Reads.{checks, read_of}
 use Rattle.format.proofs.Verdicts.{verdict_append, first_refuses, then_decides, unless_fine, unless_refused, unless_front, unless_goes_on, known_fine, known_value, known_refused}
 use Rattle.format.proofs.Readings.{read_verdict}
@@ -21,7 +21,6 @@ use Rattle.calls.specs.Call.{Call, rule_of, pair_of}
 use Rattle.calls.specs.Refusals.{bound_check, rule_check, enter_checks}
 use Rattle.calls.specs.Past.{Entered}
 use Rattle.calls.proofs.Silent.{enter_known}
-use Rattle.entry.specs.declared.Entry.{Entry}
 use Rattle.entry.specs.Enter.{Enters}
 
 rule_few : (rule : Rule) {n : ℕ} → rule_number rule ≡ n → n ≤ 1
@@ -94,12 +93,13 @@ pub entry_err : (k : Call) {A : Type 0} (a : A) (later : List Check) {r : Refusa
 entry_err k a later e = unless_front a (enter_checks k) later (known_refused (verdict_of (enter_checks k)) (pair_of k) refl e)
 
 -- the pair beside the verdict, where there is a refusal too
-module _ (k : Call) {p : Pair} where
-  pub enter_fine : Ok p ≡ unless (verdict_of (enter_checks k)) (pair_of k) → Enters k (record { pair = p; verdict = Fine })
-  enter_fine e = record { pair_is = sym (entry_is k (sym e)); told = sym (entry_fine k (sym e)) }
-
-  pub enter_refused : {r : Refusal} → Err r ≡ unless (verdict_of (enter_checks k)) (pair_of k) → p ≡ pair_of k → Enters k (record { pair = p; verdict = Err r })
-  enter_refused e is = record { pair_is = is; told = sym (known_refused (verdict_of (enter_checks k)) (pair_of k) refl (sym e)) }
+pub enter_is : (k : Call) {w r : Reading} {v : Verdict} {rule : Rule} → rule ≡ rule_of k.rule → (is_w : w ≡ read_of k.writer Writer) (is_r : r ≡ read_of k.reader Reader)
+    → v ≡ and_then w.verdict (and_then r.verdict (verdict_of (bound_check k.bound ∷ rule_check k.rule ∷ [])))
+    → Enters k (record { pair = record { writer = w.table; reader = r.table; bound = k.bound; rule = rule }; verdict = v })
+enter_is k is is_w is_r told = record {
+  pair_is = λ i. record { writer = (is_w i).table; reader = (is_r i).table; bound = k.bound; rule = is i };
+  told = told ∙ verdict_is k is_w is_r;
+}
 
 -- a call that gives its answer by its verdict: the entry checks refuse, or the rest decides over the pair as read
 module _ {ℓ} {A : Type ℓ} (k : Call) (refuse : Refusal → A) (done : Pair → A) (later : Pair → List Check) where

@@ -1,10 +1,10 @@
 // What every call does first: read both tables, test the bound and the rule; and the tests of kept bytes that ask, why and step share.
 #![tactic(auto)]
 
-ghost use Rattle.std.specs.Prelude.{◌≡◌, ◌≤◌, length};
-ghost use Rattle.format.specs.Verdicts.{verdict_of, unless};
+ghost use Rattle.std.specs.Prelude.{◌≡◌, ◌∷◌, [], ◌≤◌, length};
+ghost use Rattle.format.specs.Verdicts.{verdict_of, and_then, unless};
 ghost use Rattle.calls.specs.Call.{rule_of, pair_of};
-ghost use Rattle.calls.specs.Refusals.{enter_checks, lent_checks};
+ghost use Rattle.calls.specs.Refusals.{bound_check, rule_check, enter_checks, lent_checks};
 ghost use Rattle.entry.specs.Enter.{Enters};
 ghost use Rattle.entry.specs.Largest.{Largest};
 
@@ -51,31 +51,35 @@ fn rule_of(rule: u64) -> Rule
     }
 }
 
-// The pair of a call that is refused.
-fn as_read(call: &Call) -> Pair
-    ensures { result ≡ pair_of call.now }
+// The writer's refusal, else the reader's, else 9, else 17.
+fn first_of(writer: Verdict, reader: Verdict, bound: u64, rule: u64) -> Verdict
+    ensures { result ≡ and_then writer (and_then reader (verdict_of (bound_check bound ∷ rule_check rule ∷ []))) }
 {
-    Pair {
-        writer: read(call.writer, Side::Writer).table,
-        reader: read(call.reader, Side::Reader).table,
-        bound: call.bound,
-        rule: rule_of(call.rule),
+    writer?;
+    reader?;
+    if 15 < bound {
+        return Err(Refusal::from(Fault::BoundTooLarge));
     }
+    if 1 < rule {
+        return Err(Refusal::from(Fault::UnknownRule));
+    }
+    Ok(())
 }
 
-// What `entered` gives, with the pair beside a refusal too.
+// The same as `entered`, with the pair beside a refusal too: both tables are read in any case.
 pub fn enter(call: &Call) -> Entry
     ensures { Enters call.now result }
 {
-    match entered(call) {
-        Ok(pair) => Entry {
-            pair,
-            verdict: Ok(()),
+    let writer = read(call.writer, Side::Writer);
+    let reader = read(call.reader, Side::Reader);
+    Entry {
+        pair: Pair {
+            writer: writer.table,
+            reader: reader.table,
+            bound: call.bound,
+            rule: rule_of(call.rule),
         },
-        Err(refusal) => Entry {
-            pair: as_read(call),
-            verdict: Err(refusal),
-        },
+        verdict: first_of(writer.verdict, reader.verdict, call.bound, call.rule),
     }
 }
 

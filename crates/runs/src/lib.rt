@@ -91,6 +91,6 @@ pub fn step(call: &Call, kept: &[u8], run: Run, cycle: Cycle) -> Stepped
 {
     match opened(call, kept, run) {
         Ok(p) => turn(p, kept, run, cycle),
-        Err(refusal) => refused(refusal, run),
+        Err(refusal) => refused(Err(refusal), run),
     }
 }

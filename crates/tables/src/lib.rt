@@ -138,7 +138,7 @@ fn taken(b: &[u8]) -> Table
     }
 }
 
-// Reads and checks the table of a side.
+// Reads and checks the table of a side. A refusal returns early: where a `match` gives the reading, it is copied once more.
 pub fn read(bytes: &[u8], side: Side) -> Reading
     ensures { result ≡ read_of bytes.now side }
 {

@@ -8,14 +8,14 @@ ghost use Rattle.rules.specs.Numbers.{reason_number};
 ghost use Rattle.format.specs.Verdicts.{refusal, verdict_of, unless};
 ghost use Rattle.format.specs.declared.Fault.TheVariants.{NotAllowed};
 ghost use Rattle.calls.specs.Runs.{conf_of};
-ghost use Rattle.calls.specs.Step.{done_by, done_of, refused_step, turn_checks, turn_of};
+ghost use Rattle.calls.specs.Step.{as_given, done_by, done_of, turn_checks, turn_of};
 ghost use Rattle.calls.specs.Past.{Askable, Movable};
 ghost use Rattle.turns.specs.Cycles.{row_checks, Answerable};
 
 mod items;
 
 use calls::{Cycle, Run, Stepped};
-use format::{Fault, Refusal, Row, Side, Table};
+use format::{Fault, Refusal, Row, Side, Table, Verdict};
 use items::{front, moved};
 use outcomes::landed;
 use reasons::{check_letters, reason_at};
@@ -119,11 +119,11 @@ fn turned(p: Pair, kept: &[u8], run: Run, cycle: Cycle) -> Result<Stepped, Refus
 }
 
 // A refused cycle leaves the run as it was.
-pub fn refused(refusal: Refusal, run: Run) -> Stepped
-    ensures { result ≡ refused_step run refusal }
+pub fn refused(verdict: Verdict, run: Run) -> Stepped
+    ensures { result ≡ as_given run verdict }
 {
     Stepped {
-        verdict: Err(refusal),
+        verdict,
         run,
         item: 0,
         mark: 0,
@@ -136,6 +136,6 @@ pub fn turn(p: Pair, kept: &[u8], run: Run, cycle: Cycle) -> Stepped
 {
     match turned(p, kept, run, cycle) {
         Ok(done) => done,
-        Err(refusal) => refused(refusal, run),
+        Err(refusal) => refused(Err(refusal), run),
     }
 }

@@ -5,9 +5,8 @@ use mathlib.Core.List.{List, [], ◌∷◌}
 use Prim.Native.Nat.{ℕ}
 use Rattle.std.specs.Option.{ok_or}
 use Rattle.std.specs.Prelude.{Some, None, Err}
-use Rattle.format.specs.Verdicts.{Refusal}
 use Rattle.format.specs.declared.Fault.TheVariants.{NoConfiguration}
-use Rattle.format.specs.Verdicts.{Verdict, Fine, unsided, verdict_of, unless}
+use Rattle.format.specs.Verdicts.{Refusal, Verdict, Fine, unsided, verdict_of, unless}
 use Rattle.format.proofs.Verdicts.{unless_front, unless_goes_on}
 use Rattle.rules.specs.declared.Pair.{Pair}
 use Rattle.rules.specs.declared.Conf.{Conf}

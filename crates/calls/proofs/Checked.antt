@@ -3,7 +3,7 @@ use Prim.Native.Nat.{ℕ}
 use mathlib.Core.Path.{◌≡◌, refl, sym, ap, ◌∙◌, subst}
 use mathlib.Core.Logic.{inl, inr}
 use mathlib.Core.List.{List}
-use Rattle.format.specs.Verdicts.{Verdict, Fine, Refused, verdict_of, given}
+use Rattle.format.specs.Verdicts.{Refusal, Verdict, Fine, Refused, verdict_of, given}
 use Rattle.format.proofs.Verdicts.{fine_front}
 use Rattle.rules.specs.declared.Pair.{Pair}
 use Rattle.rules.specs.declared.Conf.{Conf}
@@ -18,7 +18,6 @@ use Rattle.calls.specs.Check.{Judged, judges_checks, check_checks, CheckSays}
 use Rattle.calls.proofs.Silent.{enter_good}
 use Rattle.std.specs.Prelude.{None, Ok, Err}
 use Rattle.format.specs.declared.Fault.TheVariants.{BadMovePermitted, NoWayToFinish}
-use Rattle.format.specs.Verdicts.{Refusal}
 
 -- ---- which verdict a list has, past 18
 

@@ -5,7 +5,7 @@ use mathlib.Core.Bool.{false}
 use mathlib.Core.List.{List, ◌++◌}
 use lib.ListN.{replicate}
 use borrow.Author.Tests.{lt-leb}
-use Rattle.format.specs.Verdicts.{Verdict, Fine, Refused, verdict_of}
+use Rattle.format.specs.Verdicts.{Refusal, Verdict, Fine, Refused, verdict_of}
 use Rattle.format.proofs.Verdicts.{fine_goes_on, given_verdict}
 use Rattle.rules.specs.declared.Conf.{Conf}
 use Rattle.rules.specs.declared.Pair.{Pair}
@@ -25,7 +25,6 @@ use Rattle.calls.proofs.Queues.{padded_none}
 use Rattle.calls.proofs.Accepted.{step_verdict}
 use Rattle.std.specs.Prelude.{None, Err}
 use Rattle.format.specs.declared.Fault.TheVariants.{NotAllowed}
-use Rattle.format.specs.Verdicts.{Refusal}
 
 -- ---- "or refuses (1 to 9) with all zero in the run beside the refusal's number, side and row"
 

@@ -5,8 +5,7 @@
 use Rattle.std.specs.Prelude.{ℕ, ◌/◌, ◌%◌, Bool, List, [], ◌∷◌, ◌++◌, Err}
 use Rattle.std.specs.Int.Count.{ones, count_trailing_zeros}
 use Rattle.lists.specs.Bits.{number}
-use Rattle.format.specs.Verdicts.{Refusal}
-use Rattle.format.specs.Verdicts.{Fine, Check, verdict_of, given}
+use Rattle.format.specs.Verdicts.{Refusal, Fine, Check, verdict_of, given}
 use Rattle.rules.specs.declared.Conf.{Conf}
 use Rattle.rules.specs.declared.Pair.{Pair}
 use Rattle.rules.specs.Configurations.{size}

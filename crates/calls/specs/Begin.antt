@@ -1,8 +1,7 @@
 -- Document 01: "Beginning a run takes two tables and B and gives the start with nothing held, or refuses (1 to 9) with all zero in the run
 -- beside the refusal's number, side and row." It takes no rule, and its answer is the same whatever the rule. Assumes nothing.
 use Rattle.std.specs.Prelude.{ℕ, [], Err}
-use Rattle.format.specs.Verdicts.{Refusal}
-use Rattle.format.specs.Verdicts.{Fine, verdict_of, given}
+use Rattle.format.specs.Verdicts.{Refusal, Fine, verdict_of, given}
 use Rattle.format.specs.Reads.{read_of}
 use Rattle.rules.specs.declared.Pair.{Pair}
 use Rattle.rules.specs.Configurations.{start, conf_with}

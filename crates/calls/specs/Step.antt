@@ -6,7 +6,7 @@ use Rattle.lists.specs.Search.{seek, some}
 use Rattle.format.specs.declared.Row.{Row}
 use Rattle.format.specs.declared.Table.{Table}
 use Rattle.format.specs.declared.Side.TheVariants.{Writer, Reader}
-use Rattle.format.specs.Verdicts.{Refusal, Verdict, Fine, Check, CheckOf, when, verdict_of, given}
+use Rattle.format.specs.Verdicts.{Refusal, Fine, Check, CheckOf, when, verdict_of, given}
 use Rattle.format.specs.Reads.{read_of}
 use Rattle.format.specs.Good.{row}
 use Rattle.rules.specs.declared.Pair.{Pair}
@@ -93,10 +93,6 @@ done_of X u c = done_by u (row X.writer (writer_found X u c)) (row X.reader (rea
 -- "A refused step returns the run given, item 0, mark 0"
 abbrev pub refused_step : Run → Refusal → Stepped
 refused_step u refusal = record { verdict = Err refusal; run = u; item = 0; mark = 0 }
-
--- the same, with any verdict
-abbrev pub as_given : Run → Verdict → Stepped
-as_given u verdict = record { verdict = verdict; run = u; item = 0; mark = 0 }
 
 -- what a cycle does, past the call's own checks
 unfoldable pub turn_of : Pair → List ℕ → Run → Cycle → Stepped

@@ -3,8 +3,7 @@
 -- `reason_of` is the reason that computes; that it is the one of the rules (`ReasonIs`) is proved: why_reason in proofs/WhySays.antt.
 -- Assumes nothing.
 use Rattle.std.specs.Prelude.{ℕ, List, ◌++◌, Err}
-use Rattle.format.specs.Verdicts.{Refusal}
-use Rattle.format.specs.Verdicts.{Fine, Check, verdict_of, given}
+use Rattle.format.specs.Verdicts.{Refusal, Fine, Check, verdict_of, given}
 use Rattle.rules.specs.declared.Conf.{Conf}
 use Rattle.rules.specs.declared.Pair.{Pair}
 use Rattle.rules.specs.declared.Reason.{Reason}

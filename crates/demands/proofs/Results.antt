@@ -5,7 +5,7 @@ use mathlib.Core.Logic.{inl, inr}
 use mathlib.Core.List.{List}
 use lib.ListN.{take, drop}
 use lib.Seq.{take_at}
-use Rattle.format.specs.Verdicts.{Fine, Refused, verdict_of, number_of}
+use Rattle.format.specs.Verdicts.{Refusal, Fine, Refused, verdict_of, number_of}
 use Rattle.format.proofs.Verdicts.{refused_not_fine}
 use Rattle.rules.specs.declared.Pair.{Pair}
 use Rattle.rules.specs.Configurations.{GoodPair, start, size}
@@ -18,7 +18,6 @@ use Rattle.calls.proofs.Codes.{checks_numbered}
 use Rattle.calls.proofs.Largest.{answer_largest, build_cases, build_enters}
 use Rattle.std.specs.Prelude.{None, Err}
 use Rattle.format.specs.declared.Fault.TheVariants.{StartDropped}
-use Rattle.format.specs.Verdicts.{Refusal}
 
 module _ (k : Call) (before : List ℕ) where
   abbrev X : Pair

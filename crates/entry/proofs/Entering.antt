@@ -4,19 +4,18 @@ use native.Mathlib.Omega.{arith}
 use mathlib.Core.Path.{◌≡◌, refl, sym, ap, ◌∙◌}
 use mathlib.Core.List.{List, [], ◌∷◌, ◌++◌, append_assoc}
 use borrow.Author.Tests.{lt-ltb, le-ltb}
-use Rattle.std.specs.Prelude.{Ok, Err}
+use Rattle.std.specs.Prelude.{Result, Ok, Err}
 use Rattle.format.specs.declared.Reading.{Reading}
-use Rattle.format.specs.Verdicts.{Refusal}
-use Rattle.format.specs.declared.Fault.TheVariants.{BoundTooLarge, UnknownRule}
+use Rattle.format.specs.declared.Fault.TheVariants.{BoundTooLarge}
 use Rattle.format.specs.declared.Side.TheVariants.{Writer, Reader}
-use Rattle.format.specs.Verdicts.{Verdict, Fine, unsided, Check, verdict_of, and_then, given, unless}
+use Rattle.format.specs.Verdicts.{Refusal, Verdict, Fine, unsided, Check, verdict_of, and_then, given, unless}
 use Rattle.format.specs.Reads.{checks, read_of}
 use Rattle.format.proofs.Verdicts.{verdict_append, first_refuses, then_decides, unless_fine, unless_refused, unless_front, unless_goes_on, known_fine, known_value, known_refused}
 use Rattle.format.proofs.Readings.{read_verdict}
 use Rattle.rules.specs.declared.Rule.{Rule}
 use Rattle.rules.specs.declared.Rule.TheVariants.{Registered, FlowThrough}
 use Rattle.rules.specs.declared.Pair.{Pair}
-use Rattle.rules.specs.Numbers.{rule_number}
+use Rattle.rules.specs.Numbers.{rule_number, IsRule}
 use Rattle.calls.specs.Call.{Call, rule_of, pair_of}
 use Rattle.calls.specs.Refusals.{bound_check, rule_check, enter_checks}
 use Rattle.calls.specs.Past.{Entered}
@@ -30,6 +29,19 @@ rule_few FlowThrough e = omega arith
 rule_is : (rule : Rule) {n : ℕ} → rule_number rule ≡ n → rule ≡ rule_of n
 rule_is Registered e = rw (← e)
 rule_is FlowThrough e = rw (← e)
+
+-- ---- 9 and 17, and the rule
+
+module _ (bound rule : ℕ) where
+  abbrev chosen : Result Rule Refusal
+  chosen = unless (verdict_of (bound_check bound ∷ rule_check rule ∷ [])) (rule_of rule)
+
+  pub bound_refused : 15 < bound → Err (unsided BoundTooLarge) ≡ chosen
+  bound_refused h = rw (lt-ltb 15 bound h)
+
+  pub rule_chosen : bound ≤ 15 → (z : Result Rule Refusal) → IsRule rule z → z ≡ chosen
+  rule_chosen few (Ok r) e = rw (le-ltb 15 bound few, le-ltb 1 rule (rule_few r e), rule_is r e)
+  rule_chosen few (Err x) e = rw (le-ltb 15 bound few, lt-ltb 1 rule e.1, e.0)
 
 -- ---- what the code reads and tests is what the checks say
 
@@ -54,21 +66,20 @@ module _ (k : Call) {w r : Reading} (is_w : w ≡ read_of k.writer Writer) (is_r
     pub reader_refused : {x : Refusal} → r.verdict ≡ Err x → Err x ≡ unless (verdict_of (enter_checks k)) (pair_of k)
     reader_refused e = unless_refused (pair_of k) (sym verdict_is ∙ rw (fine_w, e))
 
-    module _ (fine_r : r.verdict ≡ Fine) where
-      pub bound_refused : 15 < k.bound → Err (unsided BoundTooLarge) ≡ unless (verdict_of (enter_checks k)) (pair_of k)
-      bound_refused h = unless_refused (pair_of k) (sym verdict_is ∙ rw (fine_w, fine_r, lt-ltb 15 k.bound h))
+    -- what 9 and 17 say gives the rule
+    module _ (fine_r : r.verdict ≡ Fine) {out : Result Rule Refusal} (told : out ≡ unless (verdict_of numbers) (rule_of k.rule)) where
+      pub numbers_refused : {x : Refusal} → out ≡ Err x → Err x ≡ unless (verdict_of (enter_checks k)) (pair_of k)
+      numbers_refused e =
+          unless_refused (pair_of k) (sym verdict_is ∙ rw (fine_w, fine_r) (known_refused (verdict_of numbers) (rule_of k.rule) told e))
 
-      module _ (few : k.bound ≤ 15) where
-        pub rule_refused : 1 < k.rule → Err (unsided UnknownRule) ≡ unless (verdict_of (enter_checks k)) (pair_of k)
-        rule_refused h = unless_refused (pair_of k) (sym verdict_is ∙ rw (fine_w, fine_r, le-ltb 15 k.bound few, lt-ltb 1 k.rule h))
-
-        pub both_read : (rule : Rule) → rule_number rule ≡ k.rule
-            → Ok (record { writer = w.table; reader = r.table; bound = k.bound; rule = rule }) ≡ unless (verdict_of (enter_checks k)) (pair_of k)
-        both_read rule e =
-            let is : ◌≡◌ {A = Pair} (record { writer = w.table; reader = r.table; bound = k.bound; rule = rule }) (pair_of k) =
-            λ i. record { writer = (is_w i).table; reader = (is_r i).table; bound = k.bound; rule = rule_is rule e i } in
-            ap (λ (p : Pair). Ok p) is
-            ∙ unless_fine (pair_of k) (sym verdict_is ∙ rw (fine_w, fine_r, le-ltb 15 k.bound few, le-ltb 1 k.rule (rule_few rule e)))
+      pub both_read : {rule : Rule} → out ≡ Ok rule
+          → Ok (record { writer = w.table; reader = r.table; bound = k.bound; rule = rule }) ≡ unless (verdict_of (enter_checks k)) (pair_of k)
+      both_read {rule} e =
+          let chosen : rule ≡ rule_of k.rule = sym (known_value (verdict_of numbers) (rule_of k.rule) told e) in
+          let is : ◌≡◌ {A = Pair} (record { writer = w.table; reader = r.table; bound = k.bound; rule = rule }) (pair_of k) =
+          λ i. record { writer = (is_w i).table; reader = (is_r i).table; bound = k.bound; rule = chosen i } in
+          ap (λ (p : Pair). Ok p) is
+          ∙ unless_fine (pair_of k) (sym verdict_is ∙ rw (fine_w, fine_r) (known_fine (verdict_of numbers) (rule_of k.rule) told e))
 
 -- what is known of a call that has entered
 module _ (k : Call) {p : Pair} where

@@ -20,6 +20,16 @@ pub struct Entry {
     pub verdict: Verdict,
 }
 
+// 9, then 17: the rule that the number chooses.
+fn rule_under(bound: u64, rule: u64) -> Result<Rule, Refusal>
+    ensures { result ≡ unless (verdict_of (bound_check bound ∷ rule_check rule ∷ [])) (rule_of rule) }
+{
+    if 15 < bound {
+        return Err(Refusal::from(Fault::BoundTooLarge));
+    }
+    Rule::try_from(rule)
+}
+
 // Both tables, then 9, then 17. Inlined, for a result of this size is copied where it is returned.
 #[inline]
 pub fn entered(call: &Call) -> Result<Pair, Refusal>
@@ -29,10 +39,7 @@ pub fn entered(call: &Call) -> Result<Pair, Refusal>
     writer.verdict?;
     let reader = read(call.reader, Side::Reader);
     reader.verdict?;
-    if 15 < call.bound {
-        return Err(Refusal::from(Fault::BoundTooLarge));
-    }
-    let rule = Rule::try_from(call.rule)?;
+    let rule = rule_under(call.bound, call.rule)?;
     Ok(Pair {
         writer: writer.table,
         reader: reader.table,
@@ -57,12 +64,7 @@ fn first_of(writer: Verdict, reader: Verdict, bound: u64, rule: u64) -> Verdict
 {
     writer?;
     reader?;
-    if 15 < bound {
-        return Err(Refusal::from(Fault::BoundTooLarge));
-    }
-    if 1 < rule {
-        return Err(Refusal::from(Fault::UnknownRule));
-    }
+    rule_under(bound, rule)?;
     Ok(())
 }
 

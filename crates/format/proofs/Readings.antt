@@ -8,8 +8,8 @@ use lib.ListN.{length}
 use borrow.Author.Tests.{ltb-false, eqb-true, not-false}
 use Rattle.lists.specs.Search.{first, some}
 use Rattle.lists.proofs.Search.{first_some, first_none}
-use Rattle.std.specs.Prelude.{Option, None, Some, Err}
-use Rattle.format.specs.Verdicts.{side_number, fault_number, Refusal, Verdict, Fine, refusal, Check, CheckOf, verdict_of, given}
+use Rattle.std.specs.Prelude.{Some, Err}
+use Rattle.format.specs.Verdicts.{side_number, fault_number, named, Refusal, Verdict, Fine, refusal, Check, CheckOf, verdict_of, given}
 use Rattle.format.specs.Format.{version_in, role_in, rows_in}
 use Rattle.format.specs.Reads.{bad_row, fall_row, header_checks, row_checks, checks_of, checks, refused_as, read_as, read_of}
 use Rattle.format.specs.declared.Side.{Side}
@@ -91,10 +91,6 @@ read_verdict bs side = given_verdict (λ (r : Reading). r.verdict) refused_as (r
 -- ---- the order of the refusals: 1 to 8, each of its side, and 7 before 8
 
 -- a line of the table of refusals by its number and that of its side
-abbrev pub named : {S : Type 0} → (S → ℕ) → Option S → ℕ
-named number None = 0
-named number (Some side) = number side
-
 abbrev pub numbered : {S : Type 0} → (S → ℕ) → CheckOf S → ℕ × ℕ
 numbered number c = (fault_number c.refuses.fault, named number c.refuses.side)
 

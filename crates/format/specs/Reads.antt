@@ -36,7 +36,7 @@ unfoldable pub fall_row : List ℕ → ℕ → Bool
 unfolding rises
 fall_row bs i = ltb 0 i && not (rises (row_at bs (i - 1)) (row_at bs i))
 
--- ---- the table of refusals, for a table whose role byte is to be s, of the side that its caller names so
+-- ---- the table of refusals, for a table of a side: s is its role byte, and `side` is what it is called in a refusal
 
 -- length field not (bytes - 3), or not 6 + 5 × rows
 unfoldable pub length_wrong : List ℕ → Bool

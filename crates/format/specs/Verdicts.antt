@@ -36,7 +36,7 @@ fault_number UntrueList = 18
 fault_number BadMovePermitted = 19
 fault_number NoWayToFinish = 20
 
--- fine, or refused with number, side and row; a side is a `Side`, but where a test takes any name for it
+-- fine, or refused with number, side and row. S is what names a side: a `Side` in every call, and in the tests of a table whatever their caller has
 abbrev pub VerdictOf : Type 0 → Type 0
 VerdictOf S = Result (Unit {0}) (RefusalOf S)
 
@@ -64,9 +64,12 @@ abbrev pub number_of : Verdict → ℕ
 number_of (Ok _) = 0
 number_of (Err r) = fault_number r.fault
 
+abbrev pub named : {S : Type 0} → (S → ℕ) → Option S → ℕ
+named number None = 0
+named number (Some side) = number side
+
 abbrev pub named_side : Option Side → ℕ
-named_side None = 0
-named_side (Some side) = side_number side
+named_side side = named side_number side
 
 abbrev pub side_of : Verdict → ℕ
 side_of (Ok _) = 0

@@ -100,7 +100,7 @@ impl Fault {
     }
 }
 
-// Number, side and row: no side is side 0. A call names a side by `Side`; the tests of a table refuse by what their caller names it with.
+// Number, side and row: no side is side 0. S is what names a side: a `Side` in every call, and in the tests of rows whatever their caller has.
 #[derive(Clone, Copy, Debug, PartialEq, Eq)]
 pub struct RefusalOf<S> {
     pub fault: Fault,

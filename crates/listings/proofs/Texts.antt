@@ -5,7 +5,7 @@ use mathlib.Core.Path.{◌≡◌, refl, sym, ap, ◌∙◌, subst}
 use mathlib.Core.List.{List, []}
 use lib.ListN.{length, get_or-eq_default}
 use borrow.Author.Tests.{eq-eqb, ne_eqb}
-use Rattle.format.specs.Verdicts.{fault_number, named_side, Verdict, Fine, verdict_of}
+use Rattle.format.specs.Verdicts.{Refusal, fault_number, named_side, Verdict, Fine, verdict_of}
 use Rattle.format.specs.Format.{byte}
 use Rattle.format.proofs.Verdicts.{refused_not_fine, refused_stays}
 use Rattle.rules.specs.declared.Conf.{Conf}
@@ -22,7 +22,6 @@ use Rattle.texts.specs.Text.{first_line, conf_line, refusal_line}
 use Rattle.texts.specs.Written.{Written}
 use Rattle.listings.specs.Pages.{head_as, head_text, asked_text, spot_text, text_at, place_text}
 use Rattle.std.specs.Prelude.{Err}
-use Rattle.format.specs.Verdicts.{Refusal}
 
 -- ---- no text leaves the buffer as it was
 

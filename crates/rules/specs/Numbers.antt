@@ -1,8 +1,7 @@
 -- The numbers of the rules (request a) and of the reasons (request b). Assumes nothing.
 use Rattle.std.specs.Prelude.{ℕ, ◌≡◌, ◌<◌, Result, MatchResult}
-use Rattle.format.specs.Verdicts.{Refusal}
 use Rattle.format.specs.declared.Fault.TheVariants.{UnknownRule}
-use Rattle.format.specs.Verdicts.{unsided}
+use Rattle.format.specs.Verdicts.{Refusal, unsided}
 use Rattle.rules.specs.declared.Rule.{Rule}
 use Rattle.rules.specs.declared.Rule.TheVariants.{Registered, FlowThrough}
 use Rattle.rules.specs.declared.Reason.{Reason}

@@ -5,7 +5,7 @@ use mathlib.Core.Path.{◌≡◌, refl, sym, ◌∙◌}
 use mathlib.Core.Bool.{Bool, true, false, cond, not, ◌||◌}
 use mathlib.Core.List.{List, [], ◌∷◌}
 use Rattle.lists.specs.Search.{some, seek, yes, no}
-use Rattle.format.specs.Verdicts.{Verdict, Fine, unsided, Check, verdict_of, and_then}
+use Rattle.format.specs.Verdicts.{Refusal, Verdict, Fine, unsided, Check, verdict_of, and_then}
 use lib.Dec.{eqb}
 use lib.ListN.{length, get_or, drop}
 use lib.Seq.{drop-cons}
@@ -21,7 +21,6 @@ use Rattle.calls.specs.Runs.{conf_of}
 use Rattle.calls.specs.Step.{nonzero, run_check, open_checks}
 use Rattle.std.specs.Prelude.{Ok, Err}
 use Rattle.format.specs.declared.Fault.TheVariants.{NoConfiguration}
-use Rattle.format.specs.Verdicts.{Refusal}
 
 -- ---- the places past the level, as a search of the list
 

@@ -8,7 +8,7 @@ use mathlib.Core.List.{List, ◌∷◌}
 use lib.Dec.{leb, eqb}
 use lib.ListN.{length, get_or, take, length-take}
 use borrow.Author.Tests.{le-leb, lt-leb}
-use Rattle.format.specs.Verdicts.{Fine, refusal, Check, verdict_of, unless}
+use Rattle.format.specs.Verdicts.{Refusal, Fine, refusal, Check, verdict_of, unless}
 use Rattle.format.specs.Good.{row, Good}
 use Rattle.format.proofs.Verdicts.{unless_front, unless_goes_on}
 use Rattle.rules.specs.declared.Pair.{Pair}
@@ -37,7 +37,6 @@ use Rattle.calls.proofs.Turns.{found_movable}
 use Rattle.turns.specs.Cycles.{row_checks, Answerable}
 use Rattle.format.specs.declared.Side.TheVariants.{Writer, Reader}
 use Rattle.format.specs.declared.Fault.TheVariants.{NotAllowed, NoRow}
-use Rattle.format.specs.Verdicts.{Refusal}
 
 -- ---- the row that state, letter and answer fix, as a search of the used rows gives it
 

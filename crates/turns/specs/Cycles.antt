@@ -2,12 +2,13 @@
 -- Assumes nothing. (That it is what Step.antt says is proved: proofs/Turning.antt, proofs/Places.antt.)
 use Rattle.std.specs.Prelude.{ℕ, ◌+◌, ◌<◌, cond, List, [], ◌∷◌, ltb, eqb}
 use Rattle.format.specs.declared.Side.TheVariants.{Writer, Reader}
-use Rattle.format.specs.Verdicts.{Check}
+use Rattle.format.specs.Verdicts.{Verdict, Check}
 use Rattle.format.specs.Good.{row}
 use Rattle.rules.specs.declared.Pair.{Pair}
 use Rattle.rules.specs.Configurations.{GoodPair}
 use Rattle.calls.specs.declared.Run.{Run}
 use Rattle.calls.specs.declared.Cycle.{Cycle}
+use Rattle.calls.specs.declared.Stepped.{Stepped}
 use Rattle.calls.specs.Runs.{held_at}
 use Rattle.calls.specs.Step.{writer_found, reader_found, row_check}
 use Rattle.calls.specs.Past.{Movable}
@@ -17,6 +18,10 @@ use Rattle.calls.specs.Past.{Movable}
 -- 16
 abbrev pub row_checks : Pair → Run → Cycle → List Check
 row_checks X u c = row_check X.writer Writer (writer_found X u c) ∷ row_check X.reader Reader (reader_found X u c) ∷ []
+
+-- a refused cycle, by its verdict
+abbrev pub as_given : Run → Verdict → Stepped
+as_given u verdict = record { verdict = verdict; run = u; item = 0; mark = 0 }
 
 -- what is known of a cycle past 15: if both answers fix a row, the run can move by the two (`Movable`)
 pub record Answerable (X : Pair) (u : Run) (c : Cycle) : Type 0 where

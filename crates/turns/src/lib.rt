@@ -8,9 +8,9 @@ ghost use Rattle.rules.specs.Numbers.{reason_number};
 ghost use Rattle.format.specs.Verdicts.{refusal, verdict_of, unless};
 ghost use Rattle.format.specs.declared.Fault.TheVariants.{NotAllowed};
 ghost use Rattle.calls.specs.Runs.{conf_of};
-ghost use Rattle.calls.specs.Step.{as_given, done_by, done_of, turn_checks, turn_of};
+ghost use Rattle.calls.specs.Step.{done_by, done_of, turn_checks, turn_of};
 ghost use Rattle.calls.specs.Past.{Askable, Movable};
-ghost use Rattle.turns.specs.Cycles.{row_checks, Answerable};
+ghost use Rattle.turns.specs.Cycles.{row_checks, as_given, Answerable};
 
 mod items;
 

@@ -1,7 +1,7 @@
 -- `entry::entered` meets its contract. Assumes nothing.
 use mathlib.Core.Path.{refl, ◌∙◌}
 use Rattle.format.proofs.Verdicts.{handed_on}
-use Rattle.entry.proofs.Entering.{writer_refused, reader_refused, bound_refused, rule_refused, both_read}
+use Rattle.entry.proofs.Entering.{writer_refused, reader_refused, numbers_refused, both_read}
 use Rattle.entry.proofs.entered.Goals as goal
 
 pub returns-in_err-writer : goal.returns-in_err-writer
@@ -15,19 +15,13 @@ returns-in_err-reader c =
     (handed_on _ c.from_residual-in_err-reader.ensures
     ∙ reader_refused _ c.read-writer.ensures c.read-reader.ensures c.in_ok-writer.was c.in_err-reader.was)
 
-pub returns-then-call-gt15 : goal.returns-then-call-gt15
-returns-then-call-gt15 c =
-    rw (← c.call.view_is, c.from.ensures)
-    (bound_refused _ c.read-writer.ensures c.read-reader.ensures c.in_ok-writer.was c.in_ok-reader.was c.if-call-gt15.true)
-
 pub returns-in_err-rule : goal.returns-in_err-rule
 returns-in_err-rule c =
     rw (← c.call.view_is)
     (handed_on _ c.from_residual-in_err-rule.ensures
-    ∙ rw c.in_err-rule.ensures.0
-    (rule_refused _ c.read-writer.ensures c.read-reader.ensures c.in_ok-writer.was c.in_ok-reader.was c.if-call-gt15.false c.in_err-rule.ensures.1))
+    ∙ numbers_refused _ c.read-writer.ensures c.read-reader.ensures c.in_ok-writer.was c.in_ok-reader.was c.rule_under.ensures c.in_err-rule.was)
 
 pub returns : goal.returns
 returns c =
     rw (← c.call.view_is)
-    (both_read _ c.read-writer.ensures c.read-reader.ensures c.in_ok-writer.was c.in_ok-reader.was c.if-call-gt15.false _ c.in_ok-rule.ensures)
+    (both_read _ c.read-writer.ensures c.read-reader.ensures c.in_ok-writer.was c.in_ok-reader.was c.rule_under.ensures c.in_ok-rule.was)
